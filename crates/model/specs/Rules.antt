@@ -63,6 +63,10 @@ begin-rule slots known k =
     require (same-round (k .round) Idle) Busy (require (ltb (k .closed) slots) LogFull
     (require (not (eqb (next-tag known k) 0)) NothingPending (Send Proposals 0 (Tag (next-tag known k)))))
 
+-- refusals 17 and 18 of a hear, by the word that was sent and the one that was heard
+abbrev pub receive-rule : Sort → ℕ → ℕ → ℕ → Word → Word → Effect
+receive-rule so s p d word heard = require (is-sent word) NotSent (require (not (is-sent heard)) AlreadyHeard (Receive so s p d word))
+
 module _ (N : Numbers) where
   open Numbers N using (n, f, slots, phases, room)
 
@@ -153,8 +157,7 @@ module _ (N : Numbers) where
   unfoldable pub hear-rule : Messages → Replica → ℕ → ℕ → ℕ → Option Sort → Effect
   hear-rule sent k d s p none = Refuse NoSuchMessage
   hear-rule sent k d s p (just so) =
-      require (ltb s slots && phase-in so p) NoSuchMessage (require (is-sent (sent so s p d)) NotSent
-      (require (not (is-sent (k .inbox so s p d))) AlreadyHeard (Receive so s p d (sent so s p d))))
+      require (ltb s slots && phase-in so p) NoSuchMessage (receive-rule so s p d (sent so s p d) (k .inbox so s p d))
 
   -- ---- steps
 
