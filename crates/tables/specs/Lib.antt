@@ -1,0 +1,9 @@
+pub mod Types
+pub mod Layout
+pub mod Bounds
+pub mod Addresses
+pub mod View
+pub mod Records
+pub mod Write
+pub mod Checks
+pub mod Calls
