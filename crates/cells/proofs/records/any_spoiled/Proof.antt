@@ -1,0 +1,50 @@
+use native.Mathlib.Omega.{arith}
+use Prim.Native.Nat.{_≤_, _-_}
+use mathlib.Core.Path.{_≡_, sym}
+use Rattle.model.specs.Tests.{any}
+use Rattle.tables.specs.Checks.{spoiled-at, any-spoiled}
+use Rattle.cells.proofs.RecordLaws.{any-none, any-more}
+use Rattle.cells.proofs.records.any_spoiled.Statement.{statement}
+use Rattle.cells.proofs.records.any_spoiled.Tie as tie
+
+abbrev Inv-loop : tie.InvT-loop
+Inv-loop numbers records n bad₀ i₀ bad i = (i ≤ n) × (n ≡ numbers .n) × (bad ≡ any i (spoiled-at numbers records))
+
+abbrev μ-loop : tie.MeasureT-loop
+μ-loop numbers records n bad₀ i₀ bad i = n - i
+
+loop-holds : tie.Need-loop-holds Inv-loop μ-loop
+loop-holds c = (omega arith, omega arith, sym (any-none _))
+
+spoiled-record-requires : tie.Need-spoiled-record-requires Inv-loop μ-loop
+spoiled-record-requires c κs = let p = c .before .before .before .pre in omega arith
+
+or-requires : tie.Need-or-requires Inv-loop μ-loop
+or-requires c κs = omega arith
+
+add-i : tie.Need-add-i Inv-loop μ-loop
+add-i c = omega arith
+
+loop-less : tie.Need-loop-less Inv-loop μ-loop
+loop-less c = omega arith
+
+loop-again : tie.Need-loop-again Inv-loop μ-loop
+loop-again c = (omega arith, omega arith, cc (any-more _ _))
+
+returns : tie.Need-returns Inv-loop μ-loop
+unfolding any-spoiled
+returns c = let e : c .before .loop .i ≡ c .before .before .before .args .numbers .n = omega arith in cc
+
+pub any-spoiled-spec : {M : Type 1} → statement M
+any-spoiled-spec =
+    tie.close
+    (tie.spec
+    Inv-loop
+    μ-loop
+    loop-holds
+    spoiled-record-requires
+    or-requires
+    add-i
+    loop-less
+    loop-again
+    returns)

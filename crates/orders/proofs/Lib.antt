@@ -1,0 +1,2 @@
+pub mod PendingLaws
+pub mod TagLaws

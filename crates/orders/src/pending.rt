@@ -1,0 +1,112 @@
+// The tag that a replica proposes next: of those that it holds and has not in its log, the first in the order of proposing.
+use crate::tags::holds_tag;
+use crate::tags::is_blank;
+use cells::records::or;
+use model::Numbers;
+ghost use mathlib.Core.Path.{_≡_};
+ghost use mathlib.Core.Bool.{_&&_, not};
+ghost use Prim.Native.Nat.{_<_, _≤_};
+ghost use lib.Dec.{eqb};
+ghost use lib.ListN.{length, take};
+ghost use Rattle.model.specs.declared.Round.the-variants.{Idle};
+ghost use Rattle.model.specs.Tests.{if, any};
+ghost use Rattle.model.specs.Rules.{ahead, earlier, pending, next-tag};
+ghost use Rattle.tables.specs.Layout.{logs-need};
+ghost use Rattle.tables.specs.View.{log-in};
+ghost use Rattle.orders.specs.Room.{Desk, holder};
+
+// The order in which pending tags are proposed.
+fn is_ahead(x: u64, y: u64) -> bool
+    ensures { λ r. ⌜ r ≡ ahead x y ⌝ }
+{
+    x < y
+}
+
+// Of two tags the one that is proposed first; y may be none.
+pub fn earlier_tag(x: u64, y: u64) -> u64
+    ensures { λ r. ⌜ r ≡ earlier x y ⌝ }
+{
+    if or(is_blank(y), is_ahead(x, y)) {
+        return x;
+    }
+    y
+}
+
+// The entry of a slot in the log of `who`.
+fn log_entry(numbers: Numbers, who: usize, slot: usize, logs: &[u64]) -> u64
+    requires { ⌜ (who < numbers .n) × (slot < numbers .slots) × (logs-need numbers ≤ length (now logs)) ⌝ }
+    ensures { λ r. ⌜ r ≡ log-in numbers (now (logs .entry)) who slot ⌝ }
+{
+    logs[who * numbers.slots + slot]
+}
+
+// Whether one of the closed slots has the tag.
+fn is_logged(numbers: Numbers, who: usize, closed: usize, x: u64, logs: &[u64]) -> bool
+    requires { ⌜ (who < numbers .n) × (closed ≤ numbers .slots) × (logs-need numbers ≤ length (now logs)) ⌝ }
+    ensures { λ r. ⌜ r ≡ any closed (λ s. eqb (log-in numbers (now (logs .entry)) who s) x) ⌝ }
+{
+    let mut found = false;
+    let mut i = 0;
+    while i < closed {
+        found = or(log_entry(numbers, who, i, logs) == x, found);
+        i += 1;
+    }
+    found
+}
+
+// "Pending: tags that the controller holds and that are in none of its closed slots."
+fn is_pending(
+    numbers: Numbers,
+    who: usize,
+    closed: usize,
+    x: u64,
+    known: usize,
+    tags: &[u64],
+    holders: &[u16],
+    logs: &[u64],
+) -> bool
+    requires { ⌜ (closed ≤ numbers .slots) × (Desk numbers who known (now tags) (now holders) (now logs)) ⌝ }
+    ensures { λ r. ⌜ r ≡ pending (holder numbers who Idle closed known (now (tags .entry)) (now (holders .entry)) (now (logs .entry))) x ⌝ }
+{
+    if !holds_tag(who, x, known, tags, holders) {
+        return false;
+    }
+    !is_logged(numbers, who, closed, x, logs)
+}
+
+// The first of the pending tags so far, and of one more that may be pending.
+fn first_with(x: u64, waits: bool, first: u64) -> u64
+    ensures { λ r. ⌜ r ≡ if (waits && not (eqb x 0)) (earlier x first) first ⌝ }
+{
+    if !waits {
+        return first;
+    }
+    if is_blank(x) {
+        return first;
+    }
+    earlier_tag(x, first)
+}
+
+// 0 if no tag is pending. The definition goes from the list's end to its front, and so does the loop.
+pub fn next_tag(
+    numbers: Numbers,
+    who: usize,
+    closed: usize,
+    known: usize,
+    tags: &[u64],
+    holders: &[u16],
+    logs: &[u64],
+) -> u64
+    requires { ⌜ (closed ≤ numbers .slots) × (Desk numbers who known (now tags) (now holders) (now logs)) ⌝ }
+    ensures { λ r. ⌜ r ≡ next-tag (take known (now (tags .entry))) (holder numbers who Idle closed known (now (tags .entry)) (now (holders .entry)) (now (logs .entry))) ⌝ }
+{
+    let mut first = 0;
+    let mut i = known;
+    while 0 < i {
+        i -= 1;
+        let x = tags[i];
+        let waits = is_pending(numbers, who, closed, x, known, tags, holders, logs);
+        first = first_with(x, waits, first);
+    }
+    first
+}
