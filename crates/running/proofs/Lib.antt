@@ -1,0 +1,3 @@
+pub mod EnoughLaws
+pub mod PerformLaws
+pub mod RunLaws
