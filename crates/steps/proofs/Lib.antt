@@ -1,0 +1,4 @@
+pub mod LargeLaws
+pub mod NumberLaws
+pub mod PlayLaws
+pub mod ReaderLaws
