@@ -6,21 +6,22 @@ use mathlib.Core.Option.{Option, some as just, none}
 use mathlib.Core.Path.{_≡_, refl}
 use lib.Dec.{eqb}
 use lib.ListN.{getD, replicate}
-use Rattle.model.specs.Types.{Numbers, ReplicaId, Round, Idle, Exchange, State, Vote, Find, Sort, Proposals, States, Votes, Word, Unsent, Tag, Say, Unsure, Outcome, Undecided, Decided, Effect, Send, Close, Seek, Step, Submit, Relay, Begin, Hear, Advance, Crash, Call, Single, RunOn, Answer, Done, Ran}
+use Rattle.model.specs.Types.{Numbers, ReplicaId, Round, Idle, Exchange, State, Vote, Find, Sort, Proposals, States, Votes, Word, Unsent, Tag, Say, Unsure, Outcome, Undecided, Decided, Effect, Send, Close, Seek, Step, Submit, Relay, Begin, Hear, Advance, Crash, Call, Single, RunOn}
 use Rattle.model.specs.Tests.{if, count, any, some, set, listed}
-use Rattle.model.specs.Answers.{answer-number}
+use Rattle.model.specs.Answers.{answer-number, answer-values}
 use Rattle.model.specs.Coins.{entries, coin-entry, entry-place, filled-cells, filled, coin}
 use Rattle.model.specs.Rack.{same-message, put, Messages, silence, Replica, Rack, start, adding, apply}
 use Rattle.model.specs.Rules.{require, earlier, first-of, majority-among, begin-rule, outcome, conclude, advance-rule, phase-in, hear-rule, decide}
 use Rattle.model.specs.History.{Lent, take-step, advances, advance-count, follow, run, after, answer, answers, beginning, closed, entry, completed}
 
 -- what a row looks at: what a step comes to, the outcome of a vote round, a place in the coin table with its coin, and
--- the end of a run: its answers, the closed slots and the entry of slot 0, and whether outcome 1 was reached there in phase 1
+-- the end of a run: the numbers and values of its answers, the closed slots and the entry of slot 0, and whether outcome 1
+-- was reached there in phase 1
 pub data Found : Type 0 where
   effect : Effect → Found
   reached : Outcome → Found
   coin-at : ℕ → Bool → Found
-  ended : List Answer → ℕ → ℕ → Bool → Found
+  ended : List ℕ → List (List ℕ) → ℕ → ℕ → Bool → Found
 
 pub record Row : Type 0 where
   pub found : Found
@@ -73,13 +74,14 @@ abbrev ran : List Call → Found
 ran calls =
     let lent = map lend calls in
     let h = after (numbers 1 0) lent in
-    ended (answers (numbers 1 0) lent beginning) (closed h 0) (entry h 0 0) (completed (numbers 1 0) h 0 0 1 (Decided true))
+    let told = answers (numbers 1 0) lent beginning in
+    ended (map answer-number told) (map answer-values told) (closed h 0) (entry h 0 0) (completed (numbers 1 0) h 0 0 1 (Decided true))
 
 unfoldable pub rows : List Row
 rows =
     -- C1, by three advances and by a run on
-    row (ran (Single (Submit first 7) ∷ Single (Begin first) ∷ replicate 3 (Single (Advance first)))) (ended (replicate 5 Done) 1 7 true)
-    ∷ row (ran (Single (Submit first 7) ∷ Single (Begin first) ∷ RunOn first ∷ [])) (ended (Done ∷ Done ∷ Ran 3 ∷ []) 1 7 true)
+    row (ran (Single (Submit first 7) ∷ Single (Begin first) ∷ replicate 3 (Single (Advance first)))) (ended (replicate 5 0) (replicate 5 []) 1 7 true)
+    ∷ row (ran (Single (Submit first 7) ∷ Single (Begin first) ∷ RunOn first ∷ [])) (ended (replicate 3 0) ([] ∷ [] ∷ (3 ∷ []) ∷ []) 1 7 true)
     -- C2, C3, C4: the state
     ∷ row (advanced 3 1 (standing Exchange 0 (bids (5 ∷ 5 ∷ [])))) (effect (Send States 1 (Say true)))
     ∷ row (advanced 3 1 (standing Exchange 0 (bids (5 ∷ 9 ∷ [])))) (effect (Send States 1 (Say false)))
