@@ -55,7 +55,9 @@ use Rattle.crash.proofs.Crashed as R
 use Rattle.crash.proofs.Crashed.Laws as R′
 use Rattle.crash.proofs.crash_core as core
 use Rattle.crash.proofs.crash_core.Symbol as core-def
+use Rattle.crash.proofs.crash_core.Symbol.{name as #crash·crash-core}
 use Rattle.crash.proofs.crash_core.Met as core-thm
+use Rattle.crash.proofs.crash.Key.{name as #crash·crash}
 use Rattle.crash.proofs.crash as f
 use Rattle.crash.proofs.crash.Statement as stated
 use Rattle.crash.proofs.crash.Code as code
