@@ -1,0 +1,2 @@
+-- A law that the proofs of the three parts share.
+pub mod PartLaws
