@@ -23,10 +23,11 @@ use Rattle.model.specs.Tests.{if, bit, count}
 use Rattle.model.specs.Rack.{is, is-sent, tag-of, Messages, Replica}
 use Rattle.model.specs.Rules.{require, quorum, majority, heard-count, tally, majority-among, majority-tag, exchange-rule, vote-of, state-rule, outcome, next-state, conclude, vote-rule, find-rule, advance-rule, phase-in}
 use Rattle.model.proofs.Branches.{if-true}
+use Rattle.model.proofs.Cases.{never}
 use Rattle.tables.specs.View.{in-run, guarded, replica-in}
 use Rattle.tables.specs.Checks.{misplaced}
 use Rattle.messages.specs.Reach.{listener}
-use Rattle.tallies.proofs.RuleLaws.{slot-low, state-phase, vote-phase, never}
+use Rattle.advance.proofs.RuleLaws.{slot-low, state-phase, vote-phase}
 
 count-alike : (n : ℕ) (P Q : ℕ → Bool) → ((d : ℕ) → d < n → P d ≡ Q d) → count n P ≡ count n Q
 unfolding count

@@ -24,22 +24,22 @@ use Rattle.model.specs.declared.Step.{Step}
 use Rattle.model.specs.declared.Step.the-variants.{Submit, Relay, Begin, Hear, Advance, Crash}
 use Rattle.tables.specs.declared.Lengths.{Lengths}
 use Rattle.tables.specs.declared.Record.{Record}
-use Rattle.cells.specs.declared.vet.Vetted.{Vetted}
-use Rattle.cells.specs.declared.vet.Vetted.the-variants.{Turned, Passed}
+use Rattle.vetting.specs.declared.Vetted.{Vetted}
+use Rattle.vetting.specs.declared.Vetted.the-variants.{Turned, Passed}
 use Rattle.model.specs.Tests.{if}
 use Rattle.model.specs.Limits.{limited}
 use Rattle.model.specs.Coins.{coin}
 use Rattle.model.specs.Rack.{sort-of, Messages, Replica, fresh-replica}
 use Rattle.model.specs.Rules.{require, submit-rule, relay-rule, begin-rule, hear-rule, advance-rule, present, with-strip, decide}
-use Rattle.model.proofs.Cases.{any-false, or-false}
+use Rattle.model.proofs.Cases.{any-false, or-false, never}
 use Rattle.tables.specs.Layout.{Tables, record-at, records-need}
 use Rattle.tables.specs.Bounds.{bounds, is-long}
 use Rattle.tables.specs.View.{below, round-in, guarded, sent-words, inbox-in, replica-at, view}
 use Rattle.tables.specs.Checks.{lengths, long, misplaced, spoiled, spoiled-at, any-spoiled, checked}
 use Rattle.tables.specs.Calls.{crash-judged, judge}
-use Rattle.cells.specs.Vet.{behind, gate}
+use Rattle.vetting.specs.Vet.{behind, gate}
 use Rattle.messages.specs.Reach.{Reach, listener}
-use Rattle.tallies.proofs.RuleLaws.{slot-low, never}
+use Rattle.advance.proofs.RuleLaws.{slot-low}
 use Rattle.orders.specs.Room.{Desk, holder}
 use Rattle.writing.specs.Doable.{Ready}
 use Rattle.judging.proofs.AlikeLaws.{advance-alike}

@@ -1,9 +1,8 @@
 // What a step comes to on the tables: it looks, and changes nothing.
+use advance::advance_rule;
 use cells::records::load;
 use cells::records::record_spoiled;
 use cells::records::round_in;
-use cells::vet::Vetted;
-use cells::vet::vet;
 use coin::coin_of;
 use messages::hearing::hear_rule;
 use model::Effect;
@@ -18,14 +17,15 @@ use orders::rule::relay_rule;
 use orders::rule::submit_rule;
 use rules::limits::numbers_limited;
 use tables::Lengths;
-use tallies::advance::advance_rule;
+use vetting::Vetted;
+use vetting::vet;
 ghost use mathlib.Core.Path.{_≡_};
 ghost use lib.ListN.{length};
 ghost use Rattle.model.specs.declared.Effect.{Effect};
 ghost use Rattle.model.specs.declared.Step.the-variants.{Submit, Relay, Begin, Hear, Advance, Crash};
 ghost use Rattle.tables.specs.Checks.{lengths};
 ghost use Rattle.tables.specs.Calls.{tables, judge};
-ghost use Rattle.cells.specs.Vet.{behind, gate};
+ghost use Rattle.vetting.specs.Vet.{behind, gate};
 
 fn measure(
     records: &[u16],

@@ -1,7 +1,4 @@
 // Opening: a run starts on lent tables. The call of the library is `open`.
-mod clearing;
-
-use cells::vet::tables_long;
 use clearing::clear_tables;
 use coin::fill_cells;
 use model::Answer;
@@ -11,6 +8,7 @@ use model::Refusal;
 use rules::limits::plan_limited;
 use rules::limits::plan_numbers;
 use tables::Lengths;
+use vetting::tables_long;
 ghost use mathlib.Core.Path.{_≡_};
 ghost use mathlib.Core.Bool.{_&&_};
 ghost use Prim.Native.Nat.{_*_};

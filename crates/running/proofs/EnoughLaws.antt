@@ -24,8 +24,8 @@ use Rattle.tables.specs.Records.{same-record, round-back}
 use Rattle.tables.specs.Write.{write, moved, entered}
 use Rattle.tables.specs.Calls.{judge, performed, runs-further, advances-on, count-on}
 use Rattle.writing.specs.Doable.{Placed}
-use Rattle.running.specs.Progress.{Ran, ran, runs}
-use Rattle.rack.proofs.DoableLaws.{Sound, passing, own, ready-of}
+use Rattle.rounds.specs.Runs.{Ran, ran, runs}
+use Rattle.stepping.proofs.DoableLaws.{Sound, passing, own, ready-of}
 
 module _ (N : Numbers) (strip : List ℕ) (c : ReplicaId) where
   abbrev left-in : List ℕ → ℕ

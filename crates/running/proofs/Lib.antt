@@ -1,3 +1,2 @@
+pub mod CallLaws
 pub mod EnoughLaws
-pub mod PerformLaws
-pub mod RunLaws

@@ -2,14 +2,18 @@
 use Prim.Native.Nat.{ℕ, zero, suc, _+_, _-_, _*_, _/_, _%_, _≤_, _<_}
 use native.Mathlib.Omega.{arith}
 use mathlib.Core.Bool.{Bool, true, false, _&&_}
+use mathlib.Core.List.{List}
 use mathlib.Core.Path.{_≡_, refl, sym, _∙_, ap}
 use lib.Arith.{digits-lt, digits-div, digits-mod}
 use lib.Dec.{leb, ltb, eqb}
-use borrow.Author.Tests.{eqb-true, leb-true, ltb-true}
+use lib.ListN.{getD}
+use borrow.Author.Tests.{eqb-true, leb-true, ltb-true, lt-ltb, le-ltb}
 use Rattle.tables.specs.Types.{Numbers, Sort, Proposals, States, Votes}
 use Rattle.model.specs.Rules.{phase-in}
 use Rattle.tables.specs.Layout.{row, proposal-cell, ballot-cell, heard-cell, log-cell, proposals-need, ballots-need, heard-need, logs-need}
 use Rattle.tables.specs.Bounds.{Bounds}
+use Rattle.tables.specs.View.{below, log-in}
+use Rattle.model.proofs.Branches.{if-true, if-false}
 use Rattle.model.proofs.Cases.{and-true}
 
 -- a cell of a row of width n, and a row of a block of rows
@@ -53,6 +57,15 @@ module _ (N : Numbers) where
 
   pub log-in-range : (c s : ℕ) → c < n → s < slots → log-cell N c s < logs-need N
   log-in-range c s hc hs = digits-lt hc hs
+
+  -- what is read of a log: its cells, and nothing past the slots
+  pub log-read : (logs : List ℕ) (c s : ℕ) → s < slots → getD logs (log-cell N c s) 0 ≡ log-in N logs c s
+  unfolding below
+  log-read logs c s h = sym (if-true _ _ (lt-ltb s slots h))
+
+  pub log-past : (logs : List ℕ) (c s : ℕ) → slots ≤ s → 0 ≡ log-in N logs c s
+  unfolding below
+  log-past logs c s h = sym (if-false _ _ (le-ltb s slots h))
 
 -- ---- no two stand in one cell
 

@@ -1,7 +1,7 @@
 use lib.ListN.{length}
 use mathlib.Core.Path.{ap, _∙_}
 use Rattle.tables.specs.declared.Lengths.{Lengths}
-use Rattle.cells.specs.Vet.{gate}
+use Rattle.vetting.specs.Vet.{gate}
 use borrow.Author.Needs.{needs}
 use Rattle.judging.proofs.admit.Statement.{statement}
 use Rattle.judging.proofs.admit.Tie as tie
