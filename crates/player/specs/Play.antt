@@ -1,0 +1,89 @@
+-- A step file is played: "A record of a step file first meets 19, 20, 21", then it counts as the call that it makes.
+use Prim.Native.Nat.{ℕ, zero, suc}
+use mathlib.Core.Bool.{Bool, true, false, not, _&&_, _||_}
+use mathlib.Core.List.{List}
+use lib.Dec.{ltb}
+use lib.ListN.{length}
+use Rattle.model.specs.declared.Numbers.{Numbers}
+use Rattle.model.specs.declared.Refusal.the-variants.{ShortTable, UnknownKind, CutRecord, OutOfPlace}
+use Rattle.model.specs.declared.Call.{Call}
+use Rattle.model.specs.declared.Call.the-variants.{Open, Single, RunOn}
+use Rattle.model.specs.declared.Answer.{Answer}
+use Rattle.model.specs.declared.Answer.the-variants.{Refused, Done, Ran, Opened}
+use Rattle.model.specs.Tests.{if}
+use Rattle.model.specs.Limits.{planned, plan-limited}
+use Rattle.tables.specs.Layout.{Tables}
+use Rattle.tables.specs.Calls.{OpenOutcome, open-outcome, called}
+use Rattle.reader.specs.declared.Found.{Found}
+use Rattle.reader.specs.declared.Found.the-variants.{End, Unknown, Cut, Made}
+use Rattle.reader.specs.declared.Read.{Read}
+use Rattle.player.specs.declared.Player.{Player}
+use Rattle.player.specs.declared.Said.{Said}
+use Rattle.player.specs.declared.Said.the-variants.{Nothing, Stopped, Answered}
+use Rattle.reader.specs.Format.{record-at}
+
+-- what a record comes to: what is said of it, where the player stands then, and everything lent
+pub record Turn : Type 0 where
+  pub said : Said
+  pub player : Player
+  pub tables : Tables
+  pub strip : List ℕ
+
+abbrev pub turn-of : Said → Player → Tables → List ℕ → Turn
+turn-of s p t strip = record { said = s; player = p; tables = t; strip = strip }
+
+-- "step before an accepted opening, or opening after one"
+abbrev pub out-of-place : Bool → Call → Bool
+out-of-place opened (Open q) = opened
+out-of-place opened (Single a) = not opened
+out-of-place opened (RunOn c) = not opened
+
+-- an opening that is within the limits, but larger than the player's tables
+abbrev pub too-large : Numbers → Call → Bool
+too-large most (Open q) = let N = planned q in
+    plan-limited q && (ltb (most .n) (N .n) || (ltb (most .slots) (N .slots) || (ltb (most .phases) (N .phases) || ltb (most .room) (N .room))))
+too-large most (Single a) = false
+too-large most (RunOn c) = false
+
+-- the player behind a record: an accepted opening gives the run's numbers
+abbrev pub moved-on : Player → ℕ → Answer → Player
+moved-on p next (Refused why) = record { at = next; opened = p .opened; numbers = p .numbers }
+moved-on p next Done = record { at = next; opened = p .opened; numbers = p .numbers }
+moved-on p next (Ran k) = record { at = next; opened = p .opened; numbers = p .numbers }
+moved-on p next (Opened N) = record { at = next; opened = true; numbers = N }
+
+abbrev pub answered : Player → ℕ → OpenOutcome → Turn
+answered p next o = turn-of (Answered (o .answer)) (moved-on p next (o .answer)) (o .tables) (o .strip)
+
+-- refusal 21, then 2 for an opening that is too large, then the call's own
+unfoldable pub called-in-place : Numbers → Player → Call → Tables → List ℕ → OpenOutcome
+called-in-place most p a t strip =
+    if (out-of-place (p .opened) a) (open-outcome (Refused OutOfPlace) t strip)
+    (if (too-large most a) (open-outcome (Refused ShortTable) t strip) (called (p .numbers) a t strip))
+
+unfoldable pub turned : Numbers → Player → Tables → List ℕ → ℕ → Found → Turn
+turned most p t strip next End = turn-of Nothing p t strip
+turned most p t strip next Unknown = turn-of (Stopped UnknownKind) p t strip
+turned most p t strip next Cut = turn-of (Stopped CutRecord) p t strip
+turned most p t strip next (Made a) = answered p next (called-in-place most p a t strip)
+
+unfoldable pub turn : Numbers → List ℕ → Player → Tables → List ℕ → Turn
+turn most file p t strip = let r = record-at file (p .at) in turned most p t strip (r .next) (r .found)
+
+abbrev pub goes-on : Said → Bool
+goes-on Nothing = false
+goes-on (Stopped why) = false
+goes-on (Answered a) = true
+
+-- one record more, unless the file has ended or reading has stopped
+abbrev pub turn-on : Numbers → List ℕ → Turn → Turn
+turn-on most file x = if (goes-on (x .said)) (turn most file (x .player) (x .tables) (x .strip)) x
+
+-- so many records, in order
+unfoldable pub play : ℕ → Numbers → List ℕ → Turn → Turn
+play zero most file x = x
+play (suc k) most file x = turn-on most file (play k most file x)
+
+-- where playing begins
+abbrev pub begun : Player → Tables → List ℕ → Turn
+begun p t strip = turn-of (Answered Done) p t strip

@@ -1,4 +1,0 @@
-pub mod LargeLaws
-pub mod NumberLaws
-pub mod PlayLaws
-pub mod ReaderLaws
