@@ -1,0 +1,71 @@
+-- The report grows line by line.
+use Prim.Native.Nat.{ℕ, suc, _+_}
+use native.Mathlib.Numerals.{add-one}
+use native.Mathlib.Nat.{le-refl}
+use mathlib.Core.Bool.{Bool, true, false}
+use mathlib.Core.List.{List, []}
+use mathlib.Core.Path.{_≡_, refl, sym, _∙_, ap, subst}
+use lib.ListN.{length}
+use Rattle.model.specs.declared.Numbers.{Numbers}
+use Rattle.model.proofs.Branches.{if-true, if-false}
+use Rattle.tables.specs.Layout.{Tables}
+use Rattle.tables.specs.Bounds.{Bounds}
+use Rattle.report.specs.Page.{Page, print}
+use Rattle.report.specs.Lines.{benches-in}
+use Rattle.report.proofs.PageLaws.{then, same-text, nothing}
+use Rattle.report.proofs.BenchLaws.{by-view}
+use Rattle.player.specs.declared.Said.{Said}
+use Rattle.player.specs.Play.{Turn, goes-on, turn-on, play, begun}
+use Rattle.session.specs.Played.{opened-bounds}
+use Rattle.session.specs.Reported.{said-line, line-on, lines, ending, fresh, whole, report}
+
+-- what is said of a record is one of its cases
+pub says : (p : Page) {q : Page} (k : ℕ) (said s : Said) → said ≡ s → q ≡ print p (said-line k s) → q ≡ print p (said-line k said)
+says p k said s e h = same-text p _ _ (ap (said-line k) (sym e)) h
+
+pub no-line : (p : Page) (k : ℕ) (s : Said) → said-line k s ≡ [] → p ≡ print p (said-line k s)
+no-line p k s e = same-text p [] (said-line k s) (sym e) (nothing p)
+
+module _ (most : Numbers) (file : List ℕ) where
+  pub line-more : (p : Page) {q : Page} (k : ℕ) (x : Turn) {y : Turn} → goes-on (x .said) ≡ true → y ≡ turn-on most file x
+      → q ≡ print p (said-line k (y .said)) → q ≡ print p (line-on k most file x)
+  unfolding line-on
+  line-more p k x h e g = same-text p _ _ (ap (λ (z : Turn). said-line k (z .said)) e ∙ sym (if-true _ _ h)) g
+
+  pub line-none : (p : Page) (k : ℕ) (x : Turn) → goes-on (x .said) ≡ false → p ≡ print p (line-on k most file x)
+  unfolding line-on
+  line-none p k x h = same-text p [] _ (sym (if-false _ _ h)) (nothing p)
+
+  module _ (p : Page) (x : Turn) where
+    pub lines-none : p ≡ print p (lines 0 most file x)
+    unfolding lines
+    lines-none = nothing p
+
+    pub lines-more : {q r : Page} {y : Turn} (i : ℕ) → q ≡ print p (lines i most file x) → y ≡ play i most file x → r ≡ print q (line-on (i + 1) most file y)
+        → r ≡ print p (lines (i + 1) most file x)
+    unfolding lines
+    lines-more {q} {r} {y} i e h g =
+        then p (lines i most file x) _ e (same-text q _ _ (ap (λ (k : ℕ). line-on k most file y) (add-one i) ∙ ap (line-on (suc i) most file) h) g)
+        ∙ ap (λ (k : ℕ). print p (lines k most file x)) (sym (add-one i))
+
+    pub lines-all : {q : Page} {i n : ℕ} → q ≡ print p (lines i most file x) → i ≡ n → q ≡ print p (lines n most file x)
+    lines-all e h = e ∙ ap (λ (k : ℕ). print p (lines k most file x)) h
+
+  -- ---- the end
+
+  module _ (t : Tables) (strip : List ℕ) (p : Page) {q : Page} {x : Turn} (played : x ≡ whole most file t strip)
+      (written : q ≡ print p (lines (length file) most file (begun fresh t strip))) where
+    pub bounded : x .player .opened ≡ true → Bounds (x .player .numbers)
+    unfolding whole
+    bounded h = subst Bounds (ap (λ (y : Turn). y .player .numbers) (sym played)) (opened-bounds most file t strip (length file) (sym (ap (λ (y : Turn). y .player .opened) played) ∙ h))
+
+    ends : {r : Page} → r ≡ print q (ending x) → r ≡ print p (report most file t strip)
+    unfolding report
+    ends e = then p _ _ written (same-text q _ _ (ap ending played) e)
+
+    pub ends-unopened : x .player .opened ≡ false → q ≡ print p (report most file t strip)
+    ends-unopened h = ends (same-text q [] _ (sym (if-false _ _ h)) (nothing q))
+
+    pub ends-opened : {r : Page} → x .player .opened ≡ true → let N = x .player .numbers in r ≡ print q (benches-in N (x .tables .records) (x .tables .logs) (N .n))
+        → r ≡ print p (report most file t strip)
+    ends-opened h e = ends (same-text q _ _ (by-view (x .player .numbers) (x .tables) _ (le-refl _) ∙ sym (if-true _ _ h)) e)

@@ -1,0 +1,4 @@
+pub mod Ends
+pub mod Fits
+pub mod Played
+pub mod Reported

@@ -1,0 +1,216 @@
+// A step file is played from its first record to its last, and its report written. The call of the library is `play`.
+use model::Answer;
+use model::Numbers;
+use player::Played;
+use player::Player;
+use player::Said;
+use player::play_record;
+use report::benches::put_benches;
+use report::lines::put_opened;
+use report::lines::put_refused;
+ghost use mathlib.Core.Path.{_≡_};
+ghost use Prim.Native.Nat.{_<_};
+ghost use lib.ListN.{length};
+ghost use Rattle.model.specs.declared.Answer.{Answer};
+ghost use Rattle.player.specs.declared.Said.the-variants.{Answered};
+ghost use Rattle.tables.specs.Calls.{tables};
+ghost use Rattle.player.specs.Play.{turn-of, goes-on, turn-on, play as played-on, begun};
+ghost use Rattle.report.specs.Page.{page, print};
+ghost use Rattle.session.specs.Reported.{said-line, line-on, lines, fresh, whole, report as report-of};
+
+pub struct Session {
+    // what the last record came to
+    pub last: Played,
+    // how many bytes of the report are written
+    pub written: usize,
+}
+
+fn said_more(said: Said) -> bool
+    ensures { λ r. ⌜ r ≡ goes-on said ⌝ }
+{
+    match said {
+        Said::Nothing => false,
+        Said::Stopped(_) => false,
+        Said::Answered(_) => true,
+    }
+}
+
+fn put_answer(k: usize, answer: Answer, report: &mut [u8], at: usize) -> usize
+    ensures { λ r. ⌜ page (now (report .exit)) r ≡ print (page (now (report .entry)) at) (said-line k (Answered answer)) ⌝ }
+{
+    match answer {
+        Answer::Refused(why) => put_refused(k, why, report, at),
+        Answer::Done => at,
+        Answer::Ran(_) => at,
+        Answer::Opened(numbers) => put_opened(numbers, report, at),
+    }
+}
+
+// The line of record k, if it has one.
+fn put_said(k: usize, said: Said, report: &mut [u8], at: usize) -> usize
+    ensures { λ r. ⌜ page (now (report .exit)) r ≡ print (page (now (report .entry)) at) (said-line k said) ⌝ }
+{
+    match said {
+        Said::Nothing => at,
+        Said::Stopped(why) => put_refused(k, why, report, at),
+        Said::Answered(answer) => put_answer(k, answer, report, at),
+    }
+}
+
+// One record more, as number k, unless the file has ended or reading has stopped.
+fn play_on(
+    most: Numbers,
+    file: &[u8],
+    k: usize,
+    session: Session,
+    report: &mut [u8],
+    records: &mut [u16],
+    known: &mut u16,
+    tags: &mut [u64],
+    holders: &mut [u16],
+    proposals: &mut [u64],
+    ballots: &mut [u8],
+    heard: &mut [u16],
+    logs: &mut [u64],
+    strip: &mut [u8],
+) -> Session
+    ensures { λ r.
+        let before = tables (now (records .entry)) (now (known .entry)) (now (tags .entry)) (now (holders .entry)) (now (proposals .entry)) (now (ballots .entry)) (now (heard .entry)) (now (logs .entry)) in
+        let after = tables (now (records .exit)) (now (known .exit)) (now (tags .exit)) (now (holders .exit)) (now (proposals .exit)) (now (ballots .exit)) (now (heard .exit)) (now (logs .exit)) in
+        let x = turn-of (session .last .said) (session .last .player) before (now (strip .entry)) in
+        ⌜ (turn-of (r .last .said) (r .last .player) after (now (strip .exit)) ≡ turn-on most (now (file .entry)) x)
+        × (page (now (report .exit)) (r .written) ≡ print (page (now (report .entry)) (session .written)) (line-on k most (now (file .entry)) x)) ⌝ }
+{
+    let last = session.last;
+    let said = last.said;
+    if said_more(said) {
+        let player = last.player;
+        let next = play_record(
+            most,
+            file,
+            player,
+            records,
+            known,
+            tags,
+            holders,
+            proposals,
+            ballots,
+            heard,
+            logs,
+            strip,
+        );
+        let answered = next.said;
+        let written = put_said(k, answered, report, session.written);
+        return Session {
+            last: next,
+            written,
+        };
+    }
+    session
+}
+
+fn play_records(
+    most: Numbers,
+    file: &[u8],
+    report: &mut [u8],
+    records: &mut [u16],
+    known: &mut u16,
+    tags: &mut [u64],
+    holders: &mut [u16],
+    proposals: &mut [u64],
+    ballots: &mut [u8],
+    heard: &mut [u16],
+    logs: &mut [u64],
+    strip: &mut [u8],
+) -> Session
+    ensures { λ r.
+        let before = tables (now (records .entry)) (now (known .entry)) (now (tags .entry)) (now (holders .entry)) (now (proposals .entry)) (now (ballots .entry)) (now (heard .entry)) (now (logs .entry)) in
+        let after = tables (now (records .exit)) (now (known .exit)) (now (tags .exit)) (now (holders .exit)) (now (proposals .exit)) (now (ballots .exit)) (now (heard .exit)) (now (logs .exit)) in
+        let x = begun fresh before (now (strip .entry)) in
+        ⌜ (turn-of (r .last .said) (r .last .player) after (now (strip .exit)) ≡ played-on (length (now (file .entry))) most (now (file .entry)) x)
+        × (page (now (report .exit)) (r .written) ≡ print (page (now (report .entry)) 0) (lines (length (now (file .entry))) most (now (file .entry)) x)) ⌝ }
+{
+    let mut session = Session {
+        last: Played {
+            said: Said::Answered(Answer::Done),
+            player: Player {
+                at: 0,
+                opened: false,
+                numbers: Numbers {
+                    n: 0,
+                    f: 0,
+                    slots: 0,
+                    phases: 0,
+                    room: 0,
+                },
+            },
+        },
+        written: 0,
+    };
+    let mut i = 0;
+    while i < file.len() {
+        session = play_on(
+            most,
+            file,
+            i + 1,
+            session,
+            report,
+            records,
+            known,
+            tags,
+            holders,
+            proposals,
+            ballots,
+            heard,
+            logs,
+            strip,
+        );
+        i += 1;
+    }
+    session
+}
+
+// The report goes to the front of the lent buffer; what does not fit is left out.
+pub fn play(
+    most: Numbers,
+    file: &[u8],
+    report: &mut [u8],
+    records: &mut [u16],
+    known: &mut u16,
+    tags: &mut [u64],
+    holders: &mut [u16],
+    proposals: &mut [u64],
+    ballots: &mut [u8],
+    heard: &mut [u16],
+    logs: &mut [u64],
+    strip: &mut [u8],
+) -> Session
+    ensures { λ r.
+        let before = tables (now (records .entry)) (now (known .entry)) (now (tags .entry)) (now (holders .entry)) (now (proposals .entry)) (now (ballots .entry)) (now (heard .entry)) (now (logs .entry)) in
+        let after = tables (now (records .exit)) (now (known .exit)) (now (tags .exit)) (now (holders .exit)) (now (proposals .exit)) (now (ballots .exit)) (now (heard .exit)) (now (logs .exit)) in
+        ⌜ (turn-of (r .last .said) (r .last .player) after (now (strip .exit)) ≡ whole most (now (file .entry)) before (now (strip .entry)))
+        × (page (now (report .exit)) (r .written) ≡ print (page (now (report .entry)) 0) (report-of most (now (file .entry)) before (now (strip .entry)))) ⌝ }
+{
+    let session = play_records(
+        most,
+        file,
+        report,
+        records,
+        known,
+        tags,
+        holders,
+        proposals,
+        ballots,
+        heard,
+        logs,
+        strip,
+    );
+    let last = session.last;
+    let player = last.player;
+    if player.opened {
+        let numbers = player.numbers;
+        let written = put_benches(numbers, records, logs, report, session.written);
+        return Session { last, written };
+    }
+    session
+}
