@@ -1,0 +1,14 @@
+use Prim.Native.Nat.{ℕ}
+use lib.ListN.{length-replicate}
+use mathlib.Core.Path.{sym}
+use Rattle.rehearse.proofs.room.Statement.{statement}
+use Rattle.rehearse.proofs.room.Tie as tie
+use Rattle.rehearse.proofs.room.Reads as reads
+use Rattle.rehearse.proofs.room.Lts as lts
+
+-- src/main.rt:51:1
+returns : tie.Need-returns
+returns c = sym (length-replicate {0} {A = ℕ} 1600000 0)
+
+pub room-spec : {M : Type 1} → statement M
+room-spec = tie.close (tie.spec returns)

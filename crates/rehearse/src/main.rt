@@ -1,0 +1,64 @@
+// The rehearsal program: a step file from standard input is played, and its report written.
+use libc::STDIN_FILENO;
+use libc::STDOUT_FILENO;
+use model::Numbers;
+use session::play;
+ghost use mathlib.Core.Path.{_≡_};
+ghost use lib.ListN.{length};
+ghost use Rattle.io.specs.Counts.{Counts};
+ghost use Rattle.report.specs.Page.{page, print};
+ghost use Rattle.rehearse.specs.Rehearsal.{rehearsal};
+
+// "With tables for 7 controllers, 16 slots, 8 phases and 64 tags; larger openings get refusal 2."
+fn rehearse(file: &[u8], report: &mut [u8]) -> usize
+    ensures { λ r. ⌜ Counts r (now (report .exit)) ⌝ }
+    ensures { λ r. ⌜ page (now (report .exit)) r ≡ print (page (now (report .entry)) 0) (rehearsal (now (file .entry))) ⌝ }
+{
+    let most = Numbers {
+        n: 7,
+        f: 3,
+        slots: 16,
+        phases: 8,
+        room: 64,
+    };
+    let mut records = [0u16; 28];
+    let mut known = 0u16;
+    let mut tags = [0u64; 64];
+    let mut holders = [0u16; 64];
+    let mut proposals = [0u64; 112];
+    let mut ballots = [0u8; 1792];
+    let mut heard = [0u16; 1904];
+    let mut logs = [0u64; 112];
+    let mut strip = [0u8; 128];
+    let session = play(
+        most,
+        file,
+        report,
+        &mut records,
+        &mut known,
+        &mut tags,
+        &mut holders,
+        &mut proposals,
+        &mut ballots,
+        &mut heard,
+        &mut logs,
+        &mut strip,
+    );
+    session.written
+}
+
+// As long as the longest report of 65,536 bytes of steps.
+fn room() -> [u8; 1600000]
+    ensures { λ r. ⌜ 1600000 ≡ length r ⌝ }
+{
+    [0; 1600000]
+}
+
+// "It takes the first 65,536 bytes of its input and reads no more."
+fn main() {
+    let mut input = [0u8; 65536];
+    let count = io::read_full(STDIN_FILENO, &mut input);
+    let mut report = room();
+    let written = rehearse(&input[..count], &mut report);
+    io::write_all(STDOUT_FILENO, &report[..written]);
+}
