@@ -1,0 +1,331 @@
+/* Rushhopper, a proved order log: its calls for C and C++.
+ *
+ * The library keeps nothing. A run lives in tables that the caller owns and lends to every call, each as a pointer and a
+ * count of elements; no two may overlap, and none may be null. docs/TABLES.md has the layout of each.
+ *
+ * A call answers 0 if it is accepted, else the number of the refusal (enum rushhopper_refusal), and a refused call leaves
+ * everything lent as it was. Any number may be handed in: one that is out of range is refused.
+ *
+ * Part 1 declares what the library has. Part 2 is written over it, for callers who keep the tables in one struct:
+ *
+ *     RUSHHOPPER_DEFINE_TABLES(rack, 3, 2, 4, 4);              // 3 replicas, 2 slots, 4 phases, room for 4 tags
+ *     struct rushhopper_numbers plan = {3, 1, 2, 4, 4};        // n, f, slots, phases, room
+ *     struct rushhopper_replica first = {0};
+ *
+ *     refusal = rushhopper_open_in(&rack, plan, 0);
+ *     refusal = rushhopper_submit_in(&rack, first, 5);
+ *
+ * Document 01 says "controller" for replica, "spare" for f, "quota" for quorum (n - f), "dark" for crashed. */
+#ifndef RUSHHOPPER_H
+#define RUSHHOPPER_H
+
+#include <stddef.h>
+#include <stdint.h>
+
+#ifdef __cplusplus
+extern "C" {
+#endif
+
+/* ---- Part 1: the library ---- */
+
+/* The numbers of a run: n replicas, f of which may crash, slots, phases to a slot, and room for known tags.
+ * n 1 to 15 with 2f + 1 at most n, slots 1 to 64, phases 1 to 32, room 1 to 256. */
+struct rushhopper_numbers { size_t n, f, slots, phases, room; };
+
+/* Three kinds of index: a call that wants one does not accept another. Replicas and slots count from 0, phases from 1. */
+struct rushhopper_replica { size_t number; };
+struct rushhopper_slot { size_t index; };
+struct rushhopper_phase { size_t index; };
+
+/* A replica's record: four words of the table of records, at 4 * replica. crashed is 0 for a running replica; round is an
+ * enum rushhopper_round; slot is the number of slots it has closed, and so its current slot; phase counts in a state or
+ * vote round. */
+struct rushhopper_record { uint16_t crashed, round, slot, phase; };
+
+enum rushhopper_round {
+    RUSHHOPPER_ROUND_IDLE = 0,
+    RUSHHOPPER_ROUND_EXCHANGE = 1,
+    RUSHHOPPER_ROUND_STATE = 2,
+    RUSHHOPPER_ROUND_VOTE = 3,
+    RUSHHOPPER_ROUND_FIND = 4
+};
+
+/* The sort of a message, as hear takes it. */
+enum rushhopper_sort {
+    RUSHHOPPER_SORT_PROPOSAL = 1,
+    RUSHHOPPER_SORT_STATE = 2,
+    RUSHHOPPER_SORT_VOTE = 3
+};
+
+/* Document 01's refusals; its own word stands behind a name that differs. The last three occur in step files only. */
+enum rushhopper_refusal {
+    RUSHHOPPER_ACCEPTED = 0,
+    RUSHHOPPER_BAD_PLAN = 1,          /* opening or strip: a number beyond the limits */
+    RUSHHOPPER_SHORT_TABLE = 2,       /* a lent table shorter than the run needs */
+    RUSHHOPPER_SPOILED_RECORD = 3,    /* numbers beyond the limits, or tables that no run leaves */
+    RUSHHOPPER_NO_SUCH_REPLICA = 4,   /* "no such bench": the acting replica or the sender is n or more */
+    RUSHHOPPER_CRASHED = 5,           /* "dark": the acting replica has crashed */
+    RUSHHOPPER_BLANK_TAG = 6,         /* tag 0 */
+    RUSHHOPPER_ALREADY_HELD = 7,      /* "held": the replica holds this tag */
+    RUSHHOPPER_TAG_ROOM_FULL = 8,     /* submit of an unknown tag, no room */
+    RUSHHOPPER_UNKNOWN_TAG = 9,       /* relay of a tag never submitted */
+    RUSHHOPPER_BUSY = 10,             /* begin in a round */
+    RUSHHOPPER_LOG_FULL = 11,         /* begin, all slots closed */
+    RUSHHOPPER_NOTHING_PENDING = 12,  /* begin, no pending tag */
+    RUSHHOPPER_NOT_BEGUN = 13,        /* "idle": advance or run on while idle */
+    RUSHHOPPER_TOO_FEW_HEARD = 14,    /* below the quorum; in the find round, no majority */
+    RUSHHOPPER_PHASES_USED_UP = 15,   /* the vote round of the last phase would go on to another */
+    RUSHHOPPER_NO_SUCH_MESSAGE = 16,  /* hear: sort, slot or phase out of range */
+    RUSHHOPPER_NOT_SENT = 17,         /* "unsent": the sender hasn't sent it */
+    RUSHHOPPER_ALREADY_HEARD = 18,    /* "heard": the receiver has heard it */
+    RUSHHOPPER_UNKNOWN_KIND = 19,     /* a record of no known kind */
+    RUSHHOPPER_CUT_RECORD = 20,       /* the file ends inside a record */
+    RUSHHOPPER_OUT_OF_PLACE = 21      /* a step before an accepted opening, or an opening after one */
+};
+
+/* refusal 0: the numbers of the run that was opened (phases 0 became 8); else all 0 */
+struct rushhopper_opened { size_t refusal; struct rushhopper_numbers numbers; };
+/* refusal 0: how many advances were accepted; else 0 */
+struct rushhopper_ran { size_t refusal, advances; };
+/* written: how many bytes of the report stand in the buffer (a report that is longer is cut there);
+ * opened: whether (1) the file opened a run, and its numbers, else all 0 */
+struct rushhopper_played { size_t written, opened; struct rushhopper_numbers numbers; };
+
+/* How many elements of each table a run needs; constant for constant numbers. phases is the run's: 8 where the opening
+ * says 0. */
+#define RUSHHOPPER_RECORDS_LENGTH(n) ((size_t)4 * (n))
+#define RUSHHOPPER_TAGS_LENGTH(room) ((size_t)(room))
+#define RUSHHOPPER_HOLDERS_LENGTH(room) ((size_t)(room))
+#define RUSHHOPPER_PROPOSALS_LENGTH(n, slots) ((size_t)(slots) * (n))
+#define RUSHHOPPER_BALLOTS_LENGTH(n, slots, phases) ((size_t)2 * (slots) * (phases) * (n))
+#define RUSHHOPPER_HEARD_LENGTH(n, slots, phases) ((size_t)(slots) * (2 * (size_t)(phases) + 1) * (n))
+#define RUSHHOPPER_LOGS_LENGTH(n, slots) ((size_t)(n) * (slots))
+#define RUSHHOPPER_STRIP_LENGTH(slots, phases) ((size_t)(slots) * (phases))
+
+#define RUSHHOPPER_TABLES \
+    uint16_t *records, size_t records_length, \
+    uint16_t *known, \
+    uint64_t *tags, size_t tags_length, \
+    uint16_t *holders, size_t holders_length, \
+    uint64_t *proposals, size_t proposals_length, \
+    uint8_t *ballots, size_t ballots_length, \
+    uint16_t *heard, size_t heard_length, \
+    uint64_t *logs, size_t logs_length
+
+/* Fills a strip with the coins of all slots and phases, from entry start (0 to 510) of the coin table. Refusals 1, 2. */
+size_t rushhopper_fill_strip(size_t slots, size_t phases, size_t start, uint8_t *strip, size_t strip_length);
+
+/* Starts a run: all replicas running and idle at slot 0, the part of each table that the run needs cleared, the strip
+ * filled from start. A phase limit of 0 stands for 8. Refusals 1, 2. */
+struct rushhopper_opened rushhopper_open(struct rushhopper_numbers numbers, size_t start,
+                                         RUSHHOPPER_TABLES, uint8_t *strip, size_t strip_length);
+
+/* The steps. numbers are those of the opened run. Each refuses with 3, 2, 4, 5, in this order, then with its own. */
+
+/* The tag becomes known, if it wasn't, and the replica holds it. Refusals 6, 7, 8. */
+size_t rushhopper_submit(struct rushhopper_numbers numbers, struct rushhopper_replica who, uint64_t tag,
+                         RUSHHOPPER_TABLES, const uint8_t *strip, size_t strip_length);
+
+/* A known tag is held by one more replica. Refusals 6, 9, 7. */
+size_t rushhopper_relay(struct rushhopper_numbers numbers, struct rushhopper_replica who, uint64_t tag,
+                        RUSHHOPPER_TABLES, const uint8_t *strip, size_t strip_length);
+
+/* An idle replica proposes its smallest pending tag and enters the exchange. Refusals 10, 11, 12. */
+size_t rushhopper_begin(struct rushhopper_numbers numbers, struct rushhopper_replica who,
+                        RUSHHOPPER_TABLES, const uint8_t *strip, size_t strip_length);
+
+/* The receiver hears a message that the sender has sent; of any slot and phase, and from a crashed sender too. sort is an
+ * enum rushhopper_sort; a proposal's phase is 0. Refusals 16, 17, 18. */
+size_t rushhopper_hear(struct rushhopper_numbers numbers, struct rushhopper_replica receiver,
+                       struct rushhopper_replica sender, size_t sort, struct rushhopper_slot slot,
+                       struct rushhopper_phase phase, RUSHHOPPER_TABLES, const uint8_t *strip, size_t strip_length);
+
+/* One step by the round that the replica is in: sends the next message, closes the slot or enters the find round.
+ * Refusals 13, 14, 15. */
+size_t rushhopper_advance(struct rushhopper_numbers numbers, struct rushhopper_replica who,
+                          RUSHHOPPER_TABLES, const uint8_t *strip, size_t strip_length);
+
+/* Advances until a slot is closed or the next advance is refused; refused if the first is. */
+struct rushhopper_ran rushhopper_run_on(struct rushhopper_numbers numbers, struct rushhopper_replica who,
+                                        RUSHHOPPER_TABLES, const uint8_t *strip, size_t strip_length);
+
+/* The replica stops for good. Lent the one record of the replica that it names; one whose number is n or more may be lent
+ * any record. Refusals 3, 4, 5. */
+size_t rushhopper_crash(struct rushhopper_numbers numbers, struct rushhopper_replica who, struct rushhopper_record *record);
+
+/* Plays a step file on tables for at most the numbers `most` and writes its report, the rehearsal program's. An opening
+ * larger than `most` gets refusal 2. */
+struct rushhopper_played rushhopper_play(struct rushhopper_numbers most, const uint8_t *file, size_t file_length,
+                                         uint8_t *report, size_t report_length,
+                                         RUSHHOPPER_TABLES, uint8_t *strip, size_t strip_length);
+
+/* ---- Part 2: the same calls on tables kept in one struct ---- */
+
+/* numbers are those of the run in the tables. All 0 before an opening is accepted, so that every step gets refusal 3. */
+struct rushhopper_tables {
+    struct rushhopper_numbers numbers;
+    uint16_t *records;
+    size_t records_length;
+    uint16_t *known;
+    uint64_t *tags;
+    size_t tags_length;
+    uint16_t *holders;
+    size_t holders_length;
+    uint64_t *proposals;
+    size_t proposals_length;
+    uint8_t *ballots;
+    size_t ballots_length;
+    uint16_t *heard;
+    size_t heard_length;
+    uint64_t *logs;
+    size_t logs_length;
+    uint8_t *strip;
+    size_t strip_length;
+};
+
+/* Defines static tables for runs of at most these numbers (constants), and the struct `name` over them. */
+#define RUSHHOPPER_DEFINE_TABLES(name, n, slots, phases, room) \
+    static uint16_t name##_records[RUSHHOPPER_RECORDS_LENGTH(n)]; \
+    static uint16_t name##_known; \
+    static uint64_t name##_tags[RUSHHOPPER_TAGS_LENGTH(room)]; \
+    static uint16_t name##_holders[RUSHHOPPER_HOLDERS_LENGTH(room)]; \
+    static uint64_t name##_proposals[RUSHHOPPER_PROPOSALS_LENGTH(n, slots)]; \
+    static uint8_t name##_ballots[RUSHHOPPER_BALLOTS_LENGTH(n, slots, phases)]; \
+    static uint16_t name##_heard[RUSHHOPPER_HEARD_LENGTH(n, slots, phases)]; \
+    static uint64_t name##_logs[RUSHHOPPER_LOGS_LENGTH(n, slots)]; \
+    static uint8_t name##_strip[RUSHHOPPER_STRIP_LENGTH(slots, phases)]; \
+    static struct rushhopper_tables name = { \
+        {0, 0, 0, 0, 0}, \
+        name##_records, RUSHHOPPER_RECORDS_LENGTH(n), \
+        &name##_known, \
+        name##_tags, RUSHHOPPER_TAGS_LENGTH(room), \
+        name##_holders, RUSHHOPPER_HOLDERS_LENGTH(room), \
+        name##_proposals, RUSHHOPPER_PROPOSALS_LENGTH(n, slots), \
+        name##_ballots, RUSHHOPPER_BALLOTS_LENGTH(n, slots, phases), \
+        name##_heard, RUSHHOPPER_HEARD_LENGTH(n, slots, phases), \
+        name##_logs, RUSHHOPPER_LOGS_LENGTH(n, slots), \
+        name##_strip, RUSHHOPPER_STRIP_LENGTH(slots, phases) \
+    }
+
+/* The tables as arguments of a call. */
+#define RUSHHOPPER_LENT(rack) \
+    (rack)->records, (rack)->records_length, (rack)->known, (rack)->tags, (rack)->tags_length, \
+    (rack)->holders, (rack)->holders_length, (rack)->proposals, (rack)->proposals_length, \
+    (rack)->ballots, (rack)->ballots_length, (rack)->heard, (rack)->heard_length, \
+    (rack)->logs, (rack)->logs_length, (rack)->strip, (rack)->strip_length
+
+/* Makes the strip of the run anew, from another start. */
+static inline size_t rushhopper_fill_strip_in(struct rushhopper_tables *rack, size_t start)
+{
+    return rushhopper_fill_strip(rack->numbers.slots, rack->numbers.phases, start, rack->strip, rack->strip_length);
+}
+
+/* A refused opening leaves the run that was there, and its numbers. */
+static inline size_t rushhopper_open_in(struct rushhopper_tables *rack, struct rushhopper_numbers plan, size_t start)
+{
+    const struct rushhopper_opened opened = rushhopper_open(plan, start, RUSHHOPPER_LENT(rack));
+
+    if (opened.refusal == RUSHHOPPER_ACCEPTED)
+        rack->numbers = opened.numbers;
+    return opened.refusal;
+}
+
+static inline size_t rushhopper_submit_in(struct rushhopper_tables *rack, struct rushhopper_replica who, uint64_t tag)
+{
+    return rushhopper_submit(rack->numbers, who, tag, RUSHHOPPER_LENT(rack));
+}
+
+static inline size_t rushhopper_relay_in(struct rushhopper_tables *rack, struct rushhopper_replica who, uint64_t tag)
+{
+    return rushhopper_relay(rack->numbers, who, tag, RUSHHOPPER_LENT(rack));
+}
+
+static inline size_t rushhopper_begin_in(struct rushhopper_tables *rack, struct rushhopper_replica who)
+{
+    return rushhopper_begin(rack->numbers, who, RUSHHOPPER_LENT(rack));
+}
+
+static inline size_t rushhopper_hear_in(struct rushhopper_tables *rack, struct rushhopper_replica receiver,
+                                        struct rushhopper_replica sender, size_t sort, struct rushhopper_slot slot,
+                                        struct rushhopper_phase phase)
+{
+    return rushhopper_hear(rack->numbers, receiver, sender, sort, slot, phase, RUSHHOPPER_LENT(rack));
+}
+
+static inline size_t rushhopper_advance_in(struct rushhopper_tables *rack, struct rushhopper_replica who)
+{
+    return rushhopper_advance(rack->numbers, who, RUSHHOPPER_LENT(rack));
+}
+
+static inline struct rushhopper_ran rushhopper_run_on_in(struct rushhopper_tables *rack, struct rushhopper_replica who)
+{
+    return rushhopper_run_on(rack->numbers, who, RUSHHOPPER_LENT(rack));
+}
+
+/* The record of a replica; of one whose record is not in the table, a blank one. */
+static inline struct rushhopper_record rushhopper_record_of(const struct rushhopper_tables *rack,
+                                                            struct rushhopper_replica who)
+{
+    struct rushhopper_record record = {0, 0, 0, 0};
+
+    if (who.number < rack->records_length / 4) {
+        const uint16_t *words = rack->records + 4 * who.number;
+        record.crashed = words[0];
+        record.round = words[1];
+        record.slot = words[2];
+        record.phase = words[3];
+    }
+    return record;
+}
+
+/* The record goes to the library and back, since a pointer into the table of words is not one to a record. A replica of
+ * the run whose record is not in the table gets refusal 2: there is nothing to mark. */
+static inline size_t rushhopper_crash_in(struct rushhopper_tables *rack, struct rushhopper_replica who)
+{
+    struct rushhopper_record record = rushhopper_record_of(rack, who);
+    const size_t refusal = rushhopper_crash(rack->numbers, who, &record);
+
+    if (refusal != RUSHHOPPER_ACCEPTED)
+        return refusal;
+    if (who.number >= rack->records_length / 4)
+        return RUSHHOPPER_SHORT_TABLE;
+    rack->records[4 * who.number] = record.crashed;
+    return RUSHHOPPER_ACCEPTED;
+}
+
+/* The log of a replica of the run (its number below n): as many entries as its record says slots, 0 for an empty one. */
+static inline const uint64_t *rushhopper_log_of(const struct rushhopper_tables *rack, struct rushhopper_replica who)
+{
+    return rack->logs + who.number * rack->numbers.slots;
+}
+
+/* A file that opens no run leaves the one that was there, and its numbers. */
+static inline struct rushhopper_played rushhopper_play_in(struct rushhopper_tables *rack, struct rushhopper_numbers most,
+                                                          const uint8_t *file, size_t file_length,
+                                                          uint8_t *report, size_t report_length)
+{
+    const struct rushhopper_played played =
+        rushhopper_play(most, file, file_length, report, report_length, RUSHHOPPER_LENT(rack));
+
+    if (played.opened)
+        rack->numbers = played.numbers;
+    return played;
+}
+
+/* Document 01's word for a refusal. */
+static inline const char *rushhopper_word(size_t refusal)
+{
+    static const char *const words[] = {
+        "accepted", "bad plan", "short table", "spoiled record", "no such bench", "dark", "blank tag", "held",
+        "tag room full", "unknown tag", "busy", "log full", "nothing pending", "idle", "too few heard",
+        "phases used up", "no such message", "unsent", "heard", "unknown kind", "cut record", "out of place"
+    };
+
+    return refusal < sizeof words / sizeof words[0] ? words[refusal] : "no such refusal";
+}
+
+#ifdef __cplusplus
+}
+#endif
+
+#endif
