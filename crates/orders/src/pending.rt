@@ -1,6 +1,6 @@
 // The tag that a replica proposes next: of those that it holds and has not in its log, the first in the order of proposing.
-use crate::tags::holds_tag;
 use crate::tags::is_blank;
+use cells::masks::has_bit;
 use cells::records::or;
 use model::Numbers;
 ghost use mathlib.Core.Path.{_≡_};
@@ -10,8 +10,8 @@ ghost use lib.Dec.{eqb};
 ghost use lib.ListN.{length, take};
 ghost use Rattle.model.specs.declared.Round.the-variants.{Idle};
 ghost use Rattle.model.specs.Tests.{if, any};
-ghost use Rattle.model.specs.Rules.{ahead, earlier, pending, next-tag};
-ghost use Rattle.tables.specs.Layout.{logs-need};
+ghost use Rattle.model.specs.Rules.{ahead, earlier, next-tag};
+ghost use Rattle.tables.specs.Layout.{has-bit, logs-need};
 ghost use Rattle.tables.specs.View.{log-in};
 ghost use Rattle.orders.specs.Room.{Desk, holder};
 
@@ -54,21 +54,13 @@ fn is_logged(numbers: Numbers, who: usize, closed: usize, x: u64, logs: &[u64]) 
     found
 }
 
-// "Pending: tags that the controller holds and that are in none of its closed slots."
-fn is_pending(
-    numbers: Numbers,
-    who: usize,
-    closed: usize,
-    x: u64,
-    known: usize,
-    tags: &[u64],
-    holders: &[u16],
-    logs: &[u64],
-) -> bool
-    requires { ⌜ (closed ≤ numbers .slots) × (Desk numbers who known (now tags) (now holders) (now logs)) ⌝ }
-    ensures { λ r. ⌜ r ≡ pending (holder numbers who Idle closed known (now (tags .entry)) (now (holders .entry)) (now (logs .entry))) x ⌝ }
+// Whether a known place makes its tag pending. Its own bit is enough: a tag that is held only at another place that has it
+// is found there.
+fn waits_here(numbers: Numbers, who: usize, closed: usize, x: u64, mask: u16, logs: &[u64]) -> bool
+    requires { ⌜ (who < 16) × (who < numbers .n) × (closed ≤ numbers .slots) × (logs-need numbers ≤ length (now logs)) ⌝ }
+    ensures { λ r. ⌜ r ≡ (has-bit mask who && not (any closed (λ s. eqb (log-in numbers (now (logs .entry)) who s) x))) ⌝ }
 {
-    if !holds_tag(who, x, known, tags, holders) {
+    if !has_bit(mask, who) {
         return false;
     }
     !is_logged(numbers, who, closed, x, logs)
@@ -105,7 +97,7 @@ pub fn next_tag(
     while 0 < i {
         i -= 1;
         let x = tags[i];
-        let waits = is_pending(numbers, who, closed, x, known, tags, holders, logs);
+        let waits = waits_here(numbers, who, closed, x, holders[i], logs);
         first = first_with(x, waits, first);
     }
     first

@@ -1,6 +1,5 @@
 use native.Mathlib.Omega.{arith}
-use Rattle.tables.specs.Addresses.{log-in-range}
-use Rattle.orders.proofs.PendingLaws.{log-read}
+use Rattle.tables.specs.Addresses.{log-in-range, log-read}
 use Rattle.orders.proofs.pending.log_entry.Statement.{statement}
 use Rattle.orders.proofs.pending.log_entry.Tie as tie
 
