@@ -1,2 +1,0 @@
--- A law that the proofs of the three parts share.
-pub mod PartLaws

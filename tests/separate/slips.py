@@ -1,0 +1,217 @@
+#!/usr/bin/env python3
+"""Puts small deliberate mistakes into copies of the separate implementation, one at a time, and asks whether the
+comparison with the library sees each. The library is right and the slipped copy is not, so a slip that goes unseen
+is a gap in the generated inputs.
+
+    slips.py --lib FOLDER --program REHEARSE [--seed N] [--calls K] [--sessions K] [--only WORD]
+"""
+
+import argparse
+import os
+import pathlib
+import shutil
+import subprocess
+import sys
+import tempfile
+
+PACKAGE = pathlib.Path(__file__).resolve().parent
+
+# (file, what is wrong, right text, slipped text); the right text stands once in its file.
+SLIPS = [
+    # limits and addresses
+    ("numbers", "15 replicas are too many", "MOST_REPLICAS: usize = 15", "MOST_REPLICAS: usize = 14"),
+    ("numbers", "16 replicas", "MOST_REPLICAS: usize = 15", "MOST_REPLICAS: usize = 16"),
+    ("numbers", "64 slots are too many", "MOST_SLOTS: usize = 64", "MOST_SLOTS: usize = 63"),
+    ("numbers", "65 slots", "MOST_SLOTS: usize = 64", "MOST_SLOTS: usize = 65"),
+    ("numbers", "33 phases", "MOST_PHASES: usize = 32", "MOST_PHASES: usize = 33"),
+    ("numbers", "257 tags", "MOST_ROOM: usize = 256", "MOST_ROOM: usize = 257"),
+    ("numbers", "phases 0 stands for 9", "USUAL_PHASES: usize = 8", "USUAL_PHASES: usize = 9"),
+    ("numbers", "2f at most n", "self.f <= (self.n - 1) / 2", "self.f <= self.n / 2"),
+    ("numbers", "2f + 1 wraps", "self.f <= (self.n - 1) / 2", "self.f.wrapping_mul(2).wrapping_add(1) <= self.n"),
+    ("numbers", "quorum one too small", "self.n - self.f\n", "self.n - self.f - usize::from(self.n > 2)\n"),
+    ("numbers", "quorum is a majority", "self.n - self.f\n", "self.majority()\n"),
+    ("numbers", "half is a majority", "self.n / 2 + 1", "self.n.div_ceil(2)"),
+    ("numbers", "a record less is needed", "records: 4 * self.n,", "records: 4 * self.n - 1,"),
+    ("numbers", "a coin more is needed", "strip: self.slots * self.phases,", "strip: self.slots * self.phases + 1,"),
+    ("numbers", "heard masks of too few rows", "heard: self.slots * (2 * self.phases + 1)",
+     "heard: self.slots * 2 * self.phases"),
+    ("numbers", "logs by slot", "replica * self.slots + slot", "slot * self.n + replica"),
+    ("numbers", "rows of states and votes changed about", "Sort::State => 2 * self.phase - 1,\n            Sort::Vote => 2 * self.phase,",
+     "Sort::State => 2 * self.phase,\n            Sort::Vote => 2 * self.phase - 1,"),
+    ("numbers", "coin of the next phase", "slot * self.phases + phase - 1", "slot * self.phases + phase % self.phases"),
+    # coin
+    ("coin", "another recurrence", "coins[entry - 5]", "coins[entry - 4]"),
+    ("coin", "31 entries a slot", "start + 32 * slot + earlier", "start + 31 * slot + earlier"),
+    ("coin", "start 511", "&& start < PATTERN;", "&& start <= PATTERN;"),
+    ("coin", "a strip of no phases", "(1..=MOST_PHASES).contains(&phases) &&", "phases <= MOST_PHASES &&"),
+    # spoiled records
+    ("tables", "a sixth round", "self.round > FIND\n", "self.round > FIND + 1\n"),
+    ("tables", "a full log is spoiled", "|| slot > numbers.slots\n", "|| slot >= numbers.slots\n"),
+    ("tables", "in a round past the last slot", "(slot == numbers.slots && self.round != IDLE)", "false"),
+    ("tables", "phase of a vote round not looked at", "matches!(self.round, STATE | VOTE) &&", "self.round == STATE &&"),
+    ("tables", "phase of a find round looked at", "matches!(self.round, STATE | VOTE) &&",
+     "matches!(self.round, STATE | VOTE | FIND) &&"),
+    ("tables", "phase 0 of a state round", "!(1..=numbers.phases)", "!(0..=numbers.phases)"),
+    ("tables", "a full tag room is spoiled", "usize::from(self.known) > numbers.room", "usize::from(self.known) >= numbers.room"),
+    ("tables", "records behind the run's judged", "records.iter().take(numbers.n)", "records.iter()"),
+    ("tables", "records of a short table not judged", "records.iter().take(numbers.n)",
+     "records.iter().filter(|_| self.records.len() >= 4 * numbers.n).take(numbers.n)"),
+    # tables
+    ("tables", "a write past the run's part", "self.heard[..needs.heard].fill(0)", "self.heard.fill(0)"),
+    ("tables", "known tags outlive an opening", "        self.known = 0;\n", ""),
+    ("tables", "tags behind the known ones found", "self.tags[..usize::from(self.known)]", "self.tags"),
+    ("tables", "old holders come alive", "self.holders[place] = bit(holder)", "self.holders[place] |= bit(holder)"),
+    ("tables", "held by the first place only", "self.known_places().any(|(other, holders)| other == tag && holders",
+     "self.known_places().find(|&(other, _)| other == tag).is_some_and(|(_, holders)| holders"),
+    ("tables", "greatest pending tag", ".min()", ".max()"),
+    ("tables", "oldest pending tag", ".min()", ".next()"),
+    ("tables", "tag 0 proposed", "*tag != 0 && !log", "!log"),
+    ("tables", "a tag of the log proposed again", " && !log.contains(tag)", " && (log.is_empty() || *tag > 0)"),
+    ("tables", "entries past the closed slots looked at", "[start..start + closed]", "[start..start + closed.max(1)]"),
+    ("tables", "a state may say ?", "Sort::State => matches!(self.ballots[numbers.ballot_cell(message, sender)], ZERO | ONE)",
+     "Sort::State => matches!(self.ballots[numbers.ballot_cell(message, sender)], ZERO | ONE | UNDECIDED)"),
+    ("tables", "old marks of a proposal come alive",
+     "self.proposals[numbers.proposal_cell(slot, sender)] = tag;\n        self.heard[numbers.heard_cell(message, sender)] =",
+     "self.proposals[numbers.proposal_cell(slot, sender)] = tag;\n        self.heard[numbers.heard_cell(message, sender)] |="),
+    ("tables", "old marks of a state or vote come alive",
+     "self.ballots[numbers.ballot_cell(message, sender)] = word;\n        self.heard[numbers.heard_cell(message, sender)] =",
+     "self.ballots[numbers.ballot_cell(message, sender)] = word;\n        self.heard[numbers.heard_cell(message, sender)] |="),
+    ("tables", "a mark on no proposal counted", "            .filter(|&tag| tag != 0)\n", ""),
+    ("tables", "ballots counted that were not heard", " && self.was_heard(numbers, message, sender, receiver) {", " {"),
+    ("tables", "1 looked for first", "if self.zeros > 0 {\n            Some(ZERO)", "if self.zeros > self.ones {\n            Some(ZERO)"),
+    # steps
+    ("rules", "opening takes start 511", "&& start < PATTERN {", "&& start <= PATTERN {"),
+    ("rules", "2 before 3",
+     "if !numbers.within_limits() || tables.are_spoiled(numbers) {",
+     "if !numbers.within_limits() || (tables.fit(numbers) && tables.are_spoiled(numbers)) {"),
+    ("rules", "5 before the sender's 4", "    if named.iter().any(|&replica| replica >= numbers.n) {",
+     "    if tables.record(named[0]).is_some_and(|record| named[0] < numbers.n && record.crashed != 0) {\n"
+     "        return Err(Refusal::Dark);\n    }\n    if named.iter().any(|&replica| replica >= numbers.n) {"),
+    ("rules", "only 1 is crashed", "Some(record) if record.crashed == 0 =>", "Some(record) if record.crashed != 1 =>"),
+    ("rules", "room one smaller", "usize::from(tables.known) == numbers.room =>", "usize::from(tables.known) + 1 >= numbers.room =>"),
+    ("rules", "relay of tag 0 is unknown",
+     "    if tag == 0 {\n        return Err(Refusal::BlankTag);\n    }\n    let place = tables.place(tag).ok_or(Refusal::UnknownTag)?;",
+     "    let place = tables.place(tag).ok_or(Refusal::UnknownTag)?;\n    if tag == 0 {\n        return Err(Refusal::BlankTag);\n    }"),
+    ("rules", "12 before 11", "    if slot == numbers.slots {\n        return Err(Refusal::LogFull);",
+     "    if slot == numbers.slots && tables.smallest_pending(numbers, who, slot).is_some() {\n        return Err(Refusal::LogFull);"),
+    ("rules", "begin keeps the phase", "round: EXCHANGE, phase: 0, ..record", "round: EXCHANGE, ..record"),
+    ("rules", "18 before 17", "    if !tables.was_sent(numbers, message, sender) {",
+     "    if !tables.was_sent(numbers, message, sender) && !tables.was_heard(numbers, message, sender, receiver) {"),
+    ("rules", "a proposal of any phase", "if sort == Sort::Proposal { 0..=0 }", "if sort == Sort::Proposal { 0..=numbers.phases }"),
+    ("rules", "hearing moves the sender's mark", "|= bit(receiver);", "|= bit(receiver) | bit(sender);"),
+    ("rules", "exchange with a majority heard", "count() < numbers.quorum()", "count() < numbers.majority()"),
+    ("rules", "majority of the states heard",
+     "states.zeros >= numbers.majority() {\n        ZERO\n    } else if states.ones >= numbers.majority() {",
+     "2 * states.zeros > states.total() {\n        ZERO\n    } else if 2 * states.ones > states.total() {"),
+    ("rules", "majority of the proposals heard", ".count() >= numbers.majority())", ".count() > heard.clone().count() / 2)"),
+    ("rules", "f for f + 1, outcome 0", "votes.zeros > numbers.f {", "votes.zeros >= numbers.f.max(1) {"),
+    ("rules", "f for f + 1, outcome 1", "votes.ones > numbers.f {", "votes.ones >= numbers.f.max(1) {"),
+    ("rules", "closed with one's own proposal", "match majority_tag(numbers, who, usize::from(record.slot), tables) {",
+     "match Some(tables.proposals[numbers.proposal_cell(usize::from(record.slot), who)]) {"),
+    ("rules", "15 before an outcome 1", "    if votes.ones > numbers.f {", "    if phase < numbers.phases && votes.ones > numbers.f {"),
+    ("rules", "15 a phase early", "if phase == numbers.phases {", "if phase + 1 >= numbers.phases {"),
+    ("rules", "15 before 14", "    if votes.total() < numbers.quorum() {",
+     "    if votes.total() < numbers.quorum() && phase == numbers.phases {\n        return Err(Refusal::PhasesUsedUp);\n    }\n"
+     "    if votes.total() < numbers.quorum() {"),
+    ("rules", "the coin though a 0 or 1 was heard", "let voted = votes.any_value();",
+     "let voted = votes.any_value().filter(|_| votes.undecided == 0);"),
+    ("rules", "a coin is 1 only if it is the number 1", "(slot, phase)] % 2 {\n        0 => ZERO,\n        _ => ONE,",
+     "(slot, phase)] {\n        1 => ONE,\n        _ => ZERO,"),
+    ("rules", "find wants a quorum", "    let tag = majority_tag(numbers, who, slot, tables).ok_or(Refusal::TooFewHeard)?;",
+     "    if tables.heard_proposals(numbers, slot, who).count() < numbers.quorum() {\n        return Err(Refusal::TooFewHeard);\n    }\n"
+     "    let tag = majority_tag(numbers, who, slot, tables).ok_or(Refusal::TooFewHeard)?;"),
+    ("rules", "find clears the phase", "Record { round: FIND, ..record }", "Record { round: FIND, phase: 0, ..record }"),
+    ("rules", "closing clears the phase", "slot: record.slot + 1, ..record", "slot: record.slot + 1, phase: 0, ..record"),
+    ("rules", "run on counts the refused advance", "Ok(Ran { advances, stop: Stop::Refused(refusal) })",
+     "Ok(Ran { advances: advances + 1, stop: Stop::Refused(refusal) })"),
+    ("rules", "run on stops at a coin", "Advanced::ClosedEmpty | Advanced::ClosedWith(_) | Advanced::Found(_)",
+     "Advanced::ClosedEmpty | Advanced::ClosedWith(_) | Advanced::Found(_) | Advanced::NextByCoin(_)"),
+    ("rules", "crash judges a record before the number", "    if who >= numbers.n {\n        return Err(Refusal::NoSuchBench);\n    }\n    if record",
+     "    if who >= numbers.n && !record.is_spoiled(numbers) {\n        return Err(Refusal::NoSuchBench);\n    }\n    if record"),
+    ("rules", "crash twice", "    if record.crashed != 0 {", "    if record.crashed == 1 {"),
+    # step files
+    ("step_file", "a byte more is taken", "REHEARSAL_BYTES: usize = 65_536", "REHEARSAL_BYTES: usize = 65_537"),
+    ("step_file", "a byte less is taken", "REHEARSAL_BYTES: usize = 65_536", "REHEARSAL_BYTES: usize = 65_535"),
+    ("step_file", "a long table lets more phases in", "        || numbers.phases > most.phases\n", ""),
+    ("step_file", "2 before 1", "if is_larger(&rules::planned(&plan, start)?, most) {", "if is_larger(&plan, most) {"),
+    ("step_file", "no lines of benches after 19 and 20", "                break;\n", "                return played;\n"),
+    ("step_file", "accepted records not counted", "            played.refused(number, refusal);\n        }\n        seen",
+     "            played.refused(number, refusal);\n        } else {\n            number -= 1;\n        }\n        seen"),
+    ("step_file", "a second opening opens", "            (Call::Open { .. }, Some(_)) | (_, None) =>", "            (_, None) =>"),
+    ("step_file", "highest byte first", "body[1..9].iter().rev()", "body[1..9].iter()"),
+    ("step_file", "an empty slot is 0", '" -".to_string()', '" 0".to_string()'),
+]
+
+
+def options():
+    parser = argparse.ArgumentParser(description=__doc__, formatter_class=argparse.RawDescriptionHelpFormatter)
+    parser.add_argument("--lib", required=True, help="the folder of librushhopper.a")
+    parser.add_argument("--program", required=True, help="the rehearsal program")
+    parser.add_argument("--seed", default="1")
+    parser.add_argument("--calls", default="1000000")
+    parser.add_argument("--sessions", default="2000")
+    parser.add_argument("--only", default="", help="only slips whose description has this text")
+    return parser.parse_args()
+
+
+def build(copy, lib):
+    command = ["cargo", "build", "--quiet", "--release", "--offline", "--features", "library"]
+    environment = dict(os.environ, RUSHHOPPER_LIB=os.path.abspath(lib), RUSTFLAGS="-Awarnings")
+    subprocess.run(command, cwd=copy, env=environment, check=True)
+
+
+def sees(command):
+    """The first line of a difference; a copy that stops with a panic is seen too. None if neither occurs."""
+    done = subprocess.run(command, capture_output=True, text=True, errors="replace", env=dict(os.environ, RUST_BACKTRACE="0"))
+    for line in done.stdout.splitlines():
+        if line.startswith("difference"):
+            return line
+    return None if done.returncode in (0, 1) else "stopped: " + " ".join(done.stderr.split())
+
+
+def verdict(copy, arguments):
+    release = copy / "target" / "release"
+    calls = [release / "calls", "--seed", arguments.seed, "--runs", arguments.calls]
+    sessions = [release / "sessions", "--program", os.path.abspath(arguments.program)]
+    sessions += ["--seed", arguments.seed, "--runs", arguments.sessions]
+    for name, command in (("calls", calls), ("sessions", sessions)):
+        seen = sees(command)
+        if seen:
+            return f"{name}: {seen[:90]}"
+    return None
+
+
+def try_slip(copy, slip, arguments):
+    name, _, right, slipped = slip
+    source = copy / "src" / f"{name}.rs"
+    text = source.read_text()
+    if text.count(right) != 1:
+        sys.exit(f"the text stands {text.count(right)} times in {name}.rs:\n{right}")
+    source.write_text(text.replace(right, slipped))
+    try:
+        build(copy, arguments.lib)
+        return verdict(copy, arguments)
+    finally:
+        source.write_text(text)
+
+
+def main():
+    arguments = options()
+    slips = [slip for slip in SLIPS if arguments.only in slip[1]]
+    unseen = 0
+    with tempfile.TemporaryDirectory() as folder:
+        copy = pathlib.Path(folder) / "separate"
+        shutil.copytree(PACKAGE, copy, ignore=shutil.ignore_patterns("target"))
+        build(copy, arguments.lib)
+        if verdict(copy, arguments):
+            sys.exit("the copy differs before any slip")
+        for slip in slips:
+            seen = try_slip(copy, slip, arguments)
+            unseen += seen is None
+            print(f"{'unseen' if seen is None else 'seen':8}{slip[1]:45}{seen or ''}", flush=True)
+    print(f"{len(slips) - unseen} of {len(slips)} slips seen")
+    return 1 if unseen else 0
+
+
+if __name__ == "__main__":
+    sys.exit(main())

@@ -1,0 +1,304 @@
+//! `calls [--seed N] [--runs K]`: at least K direct calls of the library beside the separate implementation, on
+//! ordinary and damaged tables. Answers, values and every cell of every table must be equal after each, and each
+//! refusal of each call, each event and each kind of damage must have occurred.
+
+use separate::call::{Call, Done};
+use separate::coin::{self, COINS, PATTERN};
+use separate::compare::{compare_play, Difference, Pair};
+use separate::damage::{any_record, lent, DAMAGES};
+use separate::generate::{
+    broken_session, likely_call, limit_plan, session, small_plan, start, strange_call, strange_numbers,
+    wild_session, Habits,
+};
+use separate::library;
+use separate::numbers::{Numbers, LARGEST, MOST_PHASES, MOST_REPLICAS, MOST_SLOTS, USUAL_PHASES};
+use separate::options::number;
+use separate::random::Random;
+use separate::refusal::Refusal;
+use separate::rules;
+use separate::tables::Tables;
+use separate::tally::{Tally, EVENTS};
+use std::process::ExitCode;
+
+/// Which refusals each call can give; 0 is accepted.
+const REFUSALS: [(&str, &[usize]); 9] = [
+    ("strip", &[0, 1, 2]),
+    ("open", &[0, 1, 2]),
+    ("submit", &[0, 2, 3, 4, 5, 6, 7, 8]),
+    ("relay", &[0, 2, 3, 4, 5, 6, 7, 9]),
+    ("begin", &[0, 2, 3, 4, 5, 10, 11, 12]),
+    ("hear", &[0, 2, 3, 4, 5, 16, 17, 18]),
+    ("advance", &[0, 2, 3, 4, 5, 13, 14, 15]),
+    ("run on", &[0, 2, 3, 4, 5, 13, 14, 15]),
+    ("crash", &[0, 3, 4, 5]),
+];
+
+/// Most runs are small, so that they end; some have the usual phases or masks of 15 bits; a few are the largest.
+const SMALL: Numbers = Numbers { n: 5, f: 2, slots: 3, phases: 4, room: 6 };
+const USUAL: Numbers = Numbers { n: 4, f: 1, slots: 2, phases: USUAL_PHASES, room: 6 };
+const WIDE: Numbers = Numbers { n: MOST_REPLICAS, f: 7, slots: 2, phases: 3, room: 20 };
+
+fn main() -> ExitCode {
+    let (seed, runs) = (number("--seed", 1), number("--runs", 1_000_000));
+    let mut tally = Tally::expecting(expected());
+    if let Err(difference) = compare_pattern().and_then(|()| compare_further()) {
+        println!("difference: {difference}");
+        return ExitCode::FAILURE;
+    }
+    let (mut calls, mut run_seed) = (0, seed);
+    while calls < runs {
+        match Trial::new(run_seed, &mut tally).carry_out() {
+            Ok(made) => calls += made,
+            Err(difference) => {
+                println!("difference at --seed {run_seed} --runs 1: {difference}");
+                return ExitCode::FAILURE;
+            }
+        }
+        run_seed += 1;
+    }
+    println!("{calls} calls in {} runs, no difference", run_seed - seed);
+    tally.verdict()
+}
+
+fn expected() -> impl Iterator<Item = String> {
+    let refusals = REFUSALS.iter().flat_map(|(call, refusals)| {
+        refusals.iter().map(|&refusal| answer_name(call, refusal)).collect::<Vec<_>>()
+    });
+    let damages = DAMAGES.iter().map(|(name, _)| format!("damage: {name}"));
+    let others = ["other numbers than the run's", "played a step file"];
+    refusals.chain(EVENTS.into_iter().chain(others).map(str::to_string)).chain(damages)
+}
+
+fn answer_name(call: &str, refusal: usize) -> String {
+    match refusal {
+        0 => format!("{call}, accepted"),
+        refusal => format!("{call}, refused {refusal}"),
+    }
+}
+
+/// The O.150 pattern: every start, with the largest strip and smaller ones.
+fn compare_pattern() -> Result<(), Difference> {
+    for (slots, phases) in [(MOST_SLOTS, MOST_PHASES), (1, 1), (1, 32), (64, 1), (3, 5), (16, 8)] {
+        for start in 0..PATTERN {
+            let mut strip = vec![7; slots * phases + 3];
+            let refusal = library::fill_strip(slots, phases, start, &mut strip);
+            let entry = |cell: usize| COINS[(start + 32 * (cell / phases) + cell % phases) % PATTERN];
+            let coins: Vec<u8> = (0..slots * phases).map(entry).chain([7; 3]).collect();
+            if refusal != 0 || strip != coins {
+                return Err(format!(
+                    "strip of {slots} slots, {phases} phases from {start}: answer {refusal}"
+                ));
+            }
+        }
+    }
+    Ok(())
+}
+
+/// Document 01's "Further" check points, asked of the library.
+fn compare_further() -> Result<(), Difference> {
+    let mut tables = Tables::of_run(&LARGEST);
+    let mut ask = |n, f, slots, start, answer| {
+        let plan = Numbers { n, f, slots, phases: 4, room: 4 };
+        let refusal = library::make(&Call::Open { plan, start }, &plan, &mut tables).refusal;
+        let right = refusal == answer;
+        right.then_some(plan).ok_or(format!("opening of {plan:?} from {start}: answer {refusal}"))
+    };
+    ask(4, 2, 1, 0, Refusal::BadPlan.number())?;
+    ask(1, 0, 65, 0, Refusal::BadPlan.number())?;
+    ask(1, 0, 64, 511, Refusal::BadPlan.number())?;
+    ask(1, 0, 64, 510, 0)?;
+    let run = ask(5, 2, 1, 0, 0)?;
+    let mut answer = |call: Call| library::make(&call, &run, &mut tables).refusal;
+    let hear = |phase, sort| Call::Hear { receiver: 0, sender: 0, sort, slot: 0, phase };
+    let answers = [
+        answer(hear(0, 1)),
+        answer(Call::Submit { who: 0, tag: 7 }),
+        answer(Call::Begin { who: 0 }),
+        answer(hear(0, 1)),
+        answer(hear(1, 2)),
+    ];
+    let right = answers == [17, 0, 0, 18, 17];
+    right.then_some(()).ok_or(format!("a replica that hears itself: answers {answers:?}"))
+}
+
+/// One run: opened, used, damaged in the middle and used further.
+struct Trial<'a> {
+    random: Random,
+    tally: &'a mut Tally,
+    /// What the tables were lent for.
+    plan: Numbers,
+    numbers: Numbers,
+    refused_in_a_row: usize,
+    habits: Habits,
+    pair: Pair,
+    /// The tables before a damage, and the calls left until they come back.
+    whole: Option<(Tables, usize)>,
+}
+
+impl Trial<'_> {
+    fn new(seed: u64, tally: &mut Tally) -> Trial<'_> {
+        let mut random = Random::new(seed);
+        let most = match random.below(128) {
+            0 => LARGEST,
+            1..12 => WIDE,
+            12..24 => USUAL,
+            _ => SMALL,
+        };
+        let plan = small_plan(&mut random, &most);
+        let numbers = rules::planned(&plan, 0).unwrap_or(plan);
+        let pair = Pair::of(lent(&mut random, &numbers));
+        let habits = Habits::draw(&mut random, plan.n);
+        Trial { random, tally, plan, numbers, refused_in_a_row: 0, habits, pair, whole: None }
+    }
+
+    /// Answers how many calls were made.
+    fn carry_out(&mut self) -> Result<u64, Difference> {
+        let opening = Call::Open { plan: self.plan, start: self.random.below(PATTERN) };
+        let numbers = self.numbers;
+        self.call(&opening, &numbers)?;
+        let steps = self.random.pick(&[20, 200, 500]);
+        for _ in 0..steps {
+            self.mend();
+            if self.random.one_in(24) {
+                self.damage();
+            }
+            self.step()?;
+        }
+        Ok(steps + 1)
+    }
+
+    fn step(&mut self) -> Result<(), Difference> {
+        let random = &mut self.random;
+        let mut numbers = self.numbers;
+        if random.one_in(24) {
+            numbers = strange_numbers(random, &numbers);
+            self.tally.note("other numbers than the run's");
+        }
+        let stuck = self.whole.is_none() && self.refused_in_a_row > 20;
+        match random.below(256) {
+            0 => self.compare_play(),
+            1..4 => self.compare_strip(),
+            4..12 => self.compare_crash(&numbers),
+            12..28 => {
+                let call = strange_call(random, &numbers);
+                self.call(&call, &numbers)
+            }
+            draw if draw == 28 || stuck => {
+                let call = opening(random, &self.plan);
+                self.call(&call, &numbers)
+            }
+            _ => {
+                let call = likely_call(random, &self.numbers, &self.habits, &self.pair.ours);
+                self.call(&call, &numbers)
+            }
+        }
+    }
+
+    fn call(&mut self, call: &Call, numbers: &Numbers) -> Result<(), Difference> {
+        let result = self.pair.call(call, numbers)?;
+        self.note_answer(call.name(), result.map(|_| ()));
+        self.refused_in_a_row += 1;
+        if let Ok(done) = result {
+            self.refused_in_a_row = 0;
+            self.tally.note_events(call, &done, &self.pair.ours);
+            if let Done::Opened(numbers) = done {
+                self.numbers = numbers;
+                self.whole = None;
+            }
+        }
+        Ok(())
+    }
+
+    fn note_answer(&mut self, call: &str, result: Result<(), Refusal>) {
+        self.tally.note(&answer_name(call, result.map_or_else(Refusal::number, |()| 0)));
+    }
+
+    /// A damage is used for a few calls; then the whole tables come back, so that the run can go on.
+    fn damage(&mut self) {
+        let (name, damage) = self.random.pick(&DAMAGES);
+        self.tally.note(&format!("damage: {name}"));
+        let mut tables = self.pair.ours.clone();
+        let calls = self.random.between(1, 12);
+        self.whole.get_or_insert((tables.clone(), calls));
+        damage(&mut self.random, &self.numbers, &mut tables);
+        self.pair = Pair::of(tables);
+    }
+
+    /// Brings the whole tables back in time. Now and then damaged ones that can be used are kept.
+    fn mend(&mut self) {
+        let Some((whole, left)) = self.whole.take() else { return };
+        let usable = self.pair.ours.fit(&self.numbers) && !self.pair.ours.are_spoiled(&self.numbers);
+        if left > 0 {
+            self.whole = Some((whole, left - 1));
+        } else if !(usable && self.random.one_in(3)) {
+            self.pair = Pair::of(whole);
+        }
+    }
+
+    /// A crash is lent any record here.
+    fn compare_crash(&mut self, numbers: &Numbers) -> Result<(), Difference> {
+        let lent = any_record(&mut self.random, numbers);
+        let who = self.random.around(numbers.n.min(MOST_REPLICAS));
+        let (mut ours, mut theirs) = (lent, lent);
+        let result = rules::crash(numbers, who, &mut ours);
+        let refusal = library::crash(numbers, who, &mut theirs);
+        self.note_answer("crash", result);
+        if (result.map_or_else(Refusal::number, |()| 0), ours) == (refusal, theirs) {
+            return Ok(());
+        }
+        let shown = format!("crash of {who} with {lent:?} in {numbers:?}");
+        Err(format!("{shown}\nours {result:?}, {ours:?}\nlibrary's {refusal}, {theirs:?}"))
+    }
+
+    fn compare_strip(&mut self) -> Result<(), Difference> {
+        let random = &mut self.random;
+        let (mut slots, mut phases, mut start) =
+            (random.between(1, 64), random.between(1, 32), random.below(511));
+        match random.below(6) {
+            0 => slots = random.around(MOST_SLOTS),
+            1 => phases = random.around(MOST_PHASES),
+            2 => start = random.around(PATTERN),
+            _ => {}
+        }
+        let needed = slots.min(70) * phases.min(40);
+        let mut ours = vec![random.word() as u8; (needed + 2).saturating_sub(random.below(4))];
+        let mut theirs = ours.clone();
+        let result = coin::fill_strip(slots, phases, start, &mut ours);
+        let refusal = library::fill_strip(slots, phases, start, &mut theirs);
+        self.note_answer("strip", result);
+        if result.map_or_else(Refusal::number, |()| 0) == refusal && ours == theirs {
+            return Ok(());
+        }
+        Err(format!(
+            "strip of {slots} slots, {phases} phases from {start}: ours {result:?}, library's {refusal}"
+        ))
+    }
+
+    fn compare_play(&mut self) -> Result<(), Difference> {
+        let random = &mut self.random;
+        let most = if random.one_in(4) { strange_numbers(random, &SMALL) } else { SMALL };
+        let file = match random.below(3) {
+            0 => session(random, &SMALL),
+            1 => broken_session(random, &SMALL),
+            _ => wild_session(random, &SMALL),
+        };
+        let mut tables = lent(random, &SMALL);
+        if random.one_in(2) {
+            random.pick(&DAMAGES).1(random, &SMALL, &mut tables);
+        }
+        let room = random.pick(&[0, 30, 100, 100_000]);
+        self.tally.note("played a step file");
+        compare_play(&most, &file, room, tables)
+    }
+}
+
+/// Mostly the run that the tables were lent for, else one that they may or may not hold.
+fn opening(random: &mut Random, plan: &Numbers) -> Call {
+    let (plan, start) = match random.below(8) {
+        0 => (limit_plan(random), start(random)),
+        1 => (strange_numbers(random, plan), start(random)),
+        2 => (small_plan(random, &SMALL), start(random)),
+        _ => (*plan, random.below(PATTERN)),
+    };
+    Call::Open { plan, start }
+}

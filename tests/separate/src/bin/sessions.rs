@@ -1,0 +1,151 @@
+//! `sessions --program PATH [--seed N] [--runs K]`: K step files, given to the rehearsal program and to the library's
+//! player. Every byte of output and every cell must be that of the separate implementation, and each refusal and
+//! event must have occurred.
+
+use separate::compare::{compare_play, first_line, Difference};
+use separate::damage::{lent, DAMAGES};
+use separate::generate::{broken_session, long_session, record_places, session, wild_session};
+use separate::numbers::{Numbers, LARGEST};
+use separate::options::{number, option};
+use separate::random::Random;
+use separate::step_file::{play_seen, report, REHEARSAL, REHEARSAL_BYTES};
+use separate::tables::Tables;
+use separate::tally::{Tally, EVENTS};
+use std::io::{self, Write};
+use std::process::{Command, ExitCode, Output, Stdio};
+use std::thread;
+
+const FILES: [&str; 10] = [
+    "file, empty",
+    "file over 65,536 bytes",
+    "file of a record that ends at byte 65,536",
+    "file of a record that straddles byte 65,536",
+    "file with a cut record",
+    "file with an unknown kind",
+    "played on short tables",
+    "played on the largest tables",
+    "played with a short buffer",
+    "file without an opening first",
+];
+
+fn main() -> ExitCode {
+    let program = option("--program").expect("--program: the rehearsal program");
+    let (seed, runs) = (number("--seed", 1), number("--runs", 2000));
+    let mut tally = Tally::expecting(expected());
+    for run_seed in seed..seed + runs {
+        if let Err(difference) = compare_session(&program, run_seed, &mut tally) {
+            println!("difference at --seed {run_seed} --runs 1: {difference}");
+            return ExitCode::FAILURE;
+        }
+    }
+    println!("{runs} sessions, no difference");
+    tally.verdict()
+}
+
+/// A step file meets every refusal but 3: its opening leaves no record spoiled.
+fn expected() -> impl Iterator<Item = String> {
+    let refusals = (1..=21).filter(|&refusal| refusal != 3).map(|refusal| format!("refused {refusal}"));
+    refusals.chain(EVENTS.into_iter().chain(FILES).map(str::to_string))
+}
+
+fn compare_session(program: &str, seed: u64, tally: &mut Tally) -> Result<(), Difference> {
+    let mut random = Random::new(seed);
+    let file = draw_file(&mut random);
+    note_file(&file, tally);
+    note_steps(&file, tally);
+    let ours = report(&file);
+    let output = run(program, &file).map_err(|error| format!("{program}: {error}"))?;
+    if output.status.code().is_none() {
+        return Err(format!("{program}: {}", output.status));
+    }
+    if output.stdout != ours {
+        return Err(format!("{program}\n{}", first_line(&ours, &output.stdout)));
+    }
+    compare_with_player(&mut random, &file, tally)
+}
+
+fn draw_file(random: &mut Random) -> Vec<u8> {
+    let most = if random.one_in(16) { LARGEST } else { REHEARSAL };
+    match random.below(100) {
+        0 => long_session(random, &most),
+        1..20 => wild_session(random, &most),
+        20..40 => broken_session(random, &most),
+        _ => session(random, &most),
+    }
+}
+
+/// The library's player on tables that fit the rehearsal, are the largest, or are short somewhere.
+fn compare_with_player(random: &mut Random, file: &[u8], tally: &mut Tally) -> Result<(), Difference> {
+    let (most, tables) = match random.below(16) {
+        0 => {
+            tally.note("played on the largest tables");
+            (LARGEST, lent(random, &LARGEST))
+        }
+        1..4 => {
+            tally.note("played on short tables");
+            (REHEARSAL, short(random, &REHEARSAL))
+        }
+        _ => (REHEARSAL, lent(random, &REHEARSAL)),
+    };
+    let length = report(file).len();
+    let room = match random.below(8) {
+        0 => {
+            tally.note("played with a short buffer");
+            random.below(length + 1)
+        }
+        1 => length,
+        _ => 2 * length + 4000,
+    };
+    compare_play(&most, file, room, tables)
+}
+
+/// Tables of which one is shorter than the largest run that is let in needs; smaller runs may still fit.
+fn short(random: &mut Random, most: &Numbers) -> Tables {
+    let mut tables = lent(random, most);
+    let shortenings: Vec<_> = DAMAGES.iter().filter(|(name, _)| name.starts_with("short ")).collect();
+    let (_, shorten) = random.pick(&shortenings);
+    shorten(random, most, &mut tables);
+    tables
+}
+
+fn note_file(file: &[u8], tally: &mut Tally) {
+    let places = record_places(file);
+    let straddles = places.windows(2).any(|pair| pair[0] < REHEARSAL_BYTES && REHEARSAL_BYTES < pair[1]);
+    let end = *places.last().unwrap_or(&0);
+    let facts = [
+        ("file, empty", file.is_empty()),
+        ("file over 65,536 bytes", file.len() > REHEARSAL_BYTES),
+        ("file of a record that ends at byte 65,536", places.contains(&REHEARSAL_BYTES)),
+        ("file of a record that straddles byte 65,536", straddles),
+        ("file with a cut record", end < file.len() && file[end] < 8),
+        ("file with an unknown kind", end < file.len() && file[end] >= 8),
+        ("file without an opening first", file.first().is_some_and(|&kind| kind != 0)),
+    ];
+    for (fact, _) in facts.into_iter().filter(|(_, holds)| *holds) {
+        tally.note(fact);
+    }
+}
+
+/// Counts the refusals by the report's lines and the events by the records.
+fn note_steps(file: &[u8], tally: &mut Tally) {
+    let taken = &file[..file.len().min(REHEARSAL_BYTES)];
+    let played = play_seen(&REHEARSAL, taken, &mut Tables::of_run(&REHEARSAL), |call, result, tables| {
+        if let Ok(done) = result {
+            tally.note_events(call, done, tables);
+        }
+    });
+    let text = String::from_utf8_lossy(&played.report).into_owned();
+    for refusal in text.lines().filter_map(|line| line.strip_prefix("refused ")?.split(' ').nth(1)) {
+        tally.note(&format!("refused {refusal}"));
+    }
+}
+
+fn run(program: &str, input: &[u8]) -> io::Result<Output> {
+    let mut child = Command::new(program).stdin(Stdio::piped()).stdout(Stdio::piped()).spawn()?;
+    let stdin = child.stdin.take();
+    thread::scope(|scope| {
+        // The program need not read to the end, so a broken pipe is no fault.
+        scope.spawn(move || stdin.map(|mut stdin| stdin.write_all(input)));
+        child.wait_with_output()
+    })
+}

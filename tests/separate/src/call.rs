@@ -1,0 +1,92 @@
+//! A call with its arguments, as a value: a record of a step file counts as one, and the comparison programs make the
+//! same one of both implementations.
+
+use crate::numbers::Numbers;
+use crate::refusal::Refusal;
+use crate::rules::{self, Advanced, Ran, Submitted};
+use crate::tables::Tables;
+
+#[derive(Clone, Copy, Debug, PartialEq, Eq)]
+pub enum Call {
+    Open { plan: Numbers, start: usize },
+    Submit { who: usize, tag: u64 },
+    Relay { who: usize, tag: u64 },
+    Begin { who: usize },
+    Hear { receiver: usize, sender: usize, sort: usize, slot: usize, phase: usize },
+    Advance { who: usize },
+    Crash { who: usize },
+    RunOn { who: usize },
+}
+
+/// What an accepted call did.
+#[derive(Clone, Copy, Debug, PartialEq, Eq)]
+pub enum Done {
+    Opened(Numbers),
+    Submitted(Submitted),
+    Relayed,
+    Begun(u64),
+    Heard,
+    Advanced(Advanced),
+    Crashed,
+    RanOn(Ran),
+}
+
+/// What crosses the boundary: the refusal (0: accepted) and the values, 0 where the call has none.
+#[derive(Clone, Copy, Debug, Default, PartialEq, Eq)]
+pub struct Answer {
+    pub refusal: usize,
+    pub numbers: Numbers,
+    pub advances: usize,
+}
+
+impl Call {
+    pub fn name(&self) -> &'static str {
+        match self {
+            Call::Open { .. } => "open",
+            Call::Submit { .. } => "submit",
+            Call::Relay { .. } => "relay",
+            Call::Begin { .. } => "begin",
+            Call::Hear { .. } => "hear",
+            Call::Advance { .. } => "advance",
+            Call::Crash { .. } => "crash",
+            Call::RunOn { .. } => "run on",
+        }
+    }
+
+    /// Makes the call on the tables of a run; an opening does not look at the run's numbers.
+    pub fn make(&self, numbers: &Numbers, tables: &mut Tables) -> Result<Done, Refusal> {
+        match *self {
+            Call::Open { plan, start } => rules::open(&plan, start, tables).map(Done::Opened),
+            Call::Submit { who, tag } => rules::submit(numbers, who, tag, tables).map(Done::Submitted),
+            Call::Relay { who, tag } => rules::relay(numbers, who, tag, tables).map(|()| Done::Relayed),
+            Call::Begin { who } => rules::begin(numbers, who, tables).map(Done::Begun),
+            Call::Hear { receiver, sender, sort, slot, phase } => {
+                rules::hear(numbers, receiver, sender, sort, slot, phase, tables).map(|()| Done::Heard)
+            }
+            Call::Advance { who } => rules::advance(numbers, who, tables).map(Done::Advanced),
+            Call::Crash { who } => crash_in(numbers, who, tables).map(|()| Done::Crashed),
+            Call::RunOn { who } => rules::run_on(numbers, who, tables).map(Done::RanOn),
+        }
+    }
+}
+
+/// Lends a crash the record that the tables have of the replica it names; where they have none, a blank one.
+fn crash_in(numbers: &Numbers, who: usize, tables: &mut Tables) -> Result<(), Refusal> {
+    let mut record = tables.record(who).unwrap_or_default();
+    rules::crash(numbers, who, &mut record)?;
+    if tables.record(who).is_some() {
+        tables.set_record(who, record);
+    }
+    Ok(())
+}
+
+impl From<&Result<Done, Refusal>> for Answer {
+    fn from(result: &Result<Done, Refusal>) -> Answer {
+        match *result {
+            Err(refusal) => Answer { refusal: refusal.number(), ..Answer::default() },
+            Ok(Done::Opened(numbers)) => Answer { numbers, ..Answer::default() },
+            Ok(Done::RanOn(ran)) => Answer { advances: ran.advances, ..Answer::default() },
+            Ok(_) => Answer::default(),
+        }
+    }
+}

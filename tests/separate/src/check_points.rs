@@ -1,0 +1,230 @@
+//! Document 01's check points C1 to C10, "Further" and its worked session; C11 stands beside the coin table.
+
+use crate::call::Call;
+use crate::numbers::{Message, Numbers, Sort};
+use crate::refusal::Refusal;
+use crate::rules::{self, Advanced, Ran, Stop};
+use crate::step_file::{report, write_record};
+use crate::tables::{bit, Record, Tables, EXCHANGE, IDLE, ONE, STATE, UNDECIDED, VOTE, ZERO};
+
+fn opened(n: usize, f: usize) -> (Numbers, Tables) {
+    let numbers = Numbers { n, f, slots: 2, phases: 4, room: 4 };
+    let mut tables = Tables::of_run(&numbers);
+    assert_eq!(rules::open(&numbers, 0, &mut tables), Ok(numbers));
+    (numbers, tables)
+}
+
+/// A run in which replica 0 is in the exchange of slot 0 and has heard these proposals.
+fn heard_proposals(n: usize, f: usize, tags: &[u64]) -> (Numbers, Tables) {
+    let (numbers, mut tables) = opened(n, f);
+    for (sender, &tag) in tags.iter().enumerate() {
+        tables.send_proposal(&numbers, 0, sender, tag);
+        tables.heard[sender] |= bit(0);
+    }
+    tables.set_record(0, Record { round: EXCHANGE, ..Record::default() });
+    (numbers, tables)
+}
+
+/// A run in which replica 0 has heard these states or votes of phase 1 and is in that round of the slot.
+fn heard_ballots(numbers: &Numbers, message: Message, words: &[u8]) -> Tables {
+    let mut tables = Tables::of_run(numbers);
+    assert_eq!(rules::open(numbers, 0, &mut tables), Ok(*numbers));
+    for (sender, &word) in words.iter().enumerate() {
+        tables.send_ballot(numbers, message, sender, word);
+        tables.heard[numbers.heard_cell(message, sender)] |= bit(0);
+    }
+    let round = if message.sort == Sort::State { STATE } else { VOTE };
+    tables
+        .set_record(0, Record { crashed: 0, round, slot: message.slot as u16, phase: message.phase as u16 });
+    tables
+}
+
+fn advance_on_votes(n: usize, f: usize, slot: usize, words: &[u8]) -> Result<Advanced, Refusal> {
+    let numbers = Numbers { n, f, slots: 2, phases: 4, room: 4 };
+    let mut tables = heard_ballots(&numbers, Message { sort: Sort::Vote, slot, phase: 1 }, words);
+    rules::advance(&numbers, 0, &mut tables)
+}
+
+#[test]
+fn c1_one_replica_closes() {
+    let (numbers, mut tables) = opened(1, 0);
+    assert_eq!(rules::submit(&numbers, 0, 7, &mut tables), Ok(rules::Submitted::New));
+    assert_eq!(rules::begin(&numbers, 0, &mut tables), Ok(7));
+    assert_eq!(rules::advance(&numbers, 0, &mut tables), Ok(Advanced::Exchanged(ONE)));
+    assert_eq!(rules::advance(&numbers, 0, &mut tables), Ok(Advanced::Voted(ONE)));
+    assert_eq!(rules::advance(&numbers, 0, &mut tables), Ok(Advanced::ClosedWith(7)));
+    assert_eq!(
+        (tables.logs[0], tables.record(0)),
+        (7, Some(Record { round: IDLE, slot: 1, phase: 1, crashed: 0 }))
+    );
+}
+
+#[test]
+fn c1_by_run_on() {
+    let (numbers, mut tables) = opened(1, 0);
+    assert_eq!(rules::submit(&numbers, 0, 7, &mut tables), Ok(rules::Submitted::New));
+    assert_eq!(rules::begin(&numbers, 0, &mut tables), Ok(7));
+    assert_eq!(rules::run_on(&numbers, 0, &mut tables), Ok(Ran { advances: 3, stop: Stop::Closed }));
+}
+
+#[test]
+fn c2_c3_c4_states_of_the_exchange() {
+    for (n, tags, state) in [(3, vec![5, 5], ONE), (3, vec![5, 9], ZERO), (4, vec![5, 5, 9], ZERO)] {
+        let (numbers, mut tables) = heard_proposals(n, 1, &tags);
+        assert_eq!(rules::advance(&numbers, 0, &mut tables), Ok(Advanced::Exchanged(state)));
+    }
+}
+
+#[test]
+fn c5_no_majority_of_states() {
+    let numbers = Numbers { n: 4, f: 1, slots: 2, phases: 4, room: 4 };
+    let states = Message { sort: Sort::State, slot: 0, phase: 1 };
+    let mut tables = heard_ballots(&numbers, states, &[ONE, ONE, ZERO]);
+    assert_eq!(rules::advance(&numbers, 0, &mut tables), Ok(Advanced::Voted(UNDECIDED)));
+}
+
+/// No proposal is heard here, so the outcome 1 of C6 shows as the find round.
+#[test]
+fn c6_c7_votes() {
+    assert_eq!(advance_on_votes(5, 1, 0, &[ONE, ONE, UNDECIDED, UNDECIDED]), Ok(Advanced::EnteredFind));
+    assert_eq!(advance_on_votes(5, 2, 0, &[ONE, ONE, UNDECIDED]), Ok(Advanced::NextByVote(ONE)));
+}
+
+/// C8 speaks of entry 32, so of the coin table: slot 1, phase 1.
+#[test]
+fn c8_coin() {
+    assert_eq!(crate::coin::COINS[32], 0);
+    assert_eq!(advance_on_votes(3, 1, 1, &[UNDECIDED, UNDECIDED]), Ok(Advanced::NextByCoin(ZERO)));
+}
+
+#[test]
+fn c9_find() {
+    let (numbers, mut tables) = heard_proposals(3, 1, &[5, 9, 5]);
+    tables.heard[2] = bit(2);
+    let votes = Message { sort: Sort::Vote, slot: 0, phase: 1 };
+    for sender in 0..2 {
+        tables.send_ballot(&numbers, votes, sender, ONE);
+        tables.heard[numbers.heard_cell(votes, sender)] |= bit(0);
+    }
+    tables.set_record(0, Record { crashed: 0, round: VOTE, slot: 0, phase: 1 });
+    assert_eq!(rules::advance(&numbers, 0, &mut tables), Ok(Advanced::EnteredFind));
+    assert_eq!(rules::advance(&numbers, 0, &mut tables), Err(Refusal::TooFewHeard));
+    assert_eq!(rules::hear(&numbers, 0, 2, 1, 0, 0, &mut tables), Ok(()));
+    assert_eq!(rules::advance(&numbers, 0, &mut tables), Ok(Advanced::Found(5)));
+    assert_eq!(tables.logs[0], 5);
+}
+
+#[test]
+fn c10_smallest_pending() {
+    let (numbers, mut tables) = opened(3, 1);
+    for tag in [9, 5] {
+        assert_eq!(rules::submit(&numbers, 0, tag, &mut tables), Ok(rules::Submitted::New));
+    }
+    assert_eq!(rules::begin(&numbers, 0, &mut tables), Ok(5));
+}
+
+#[test]
+fn further_openings() {
+    let most = Numbers { n: 15, f: 7, slots: 64, phases: 32, room: 256 };
+    let mut tables = Tables::of_run(&most);
+    let mut answer = |n, f, slots, start| {
+        rules::open(&Numbers { n, f, slots, phases: 0, room: 256 }, start, &mut tables)
+            .map(|numbers| numbers.phases)
+    };
+    assert_eq!(answer(4, 2, 1, 0), Err(Refusal::BadPlan));
+    assert_eq!(answer(5, 2, 1, 0), Ok(8));
+    assert_eq!(answer(5, 2, 64, 510), Ok(8));
+    assert_eq!(answer(5, 2, 65, 0), Err(Refusal::BadPlan));
+    assert_eq!(answer(5, 2, 64, 511), Err(Refusal::BadPlan));
+}
+
+#[test]
+fn further_hearing_oneself() {
+    let (numbers, mut tables) = heard_proposals(3, 1, &[5]);
+    assert_eq!(rules::hear(&numbers, 0, 0, 1, 0, 0, &mut tables), Err(Refusal::Heard));
+    assert_eq!(rules::hear(&numbers, 0, 0, 2, 0, 1, &mut tables), Err(Refusal::Unsent));
+}
+
+/// The calls of the document's input: slot 0, phase 1 throughout.
+fn worked_session() -> Vec<Call> {
+    let hear = |receiver, sender, sort| {
+        let phase = if sort == 1 { 0 } else { 1 };
+        Call::Hear { receiver, sender, sort, slot: 0, phase }
+    };
+    let advance = |who| Call::Advance { who };
+    let begin = |who| Call::Begin { who };
+    let plan = Numbers { n: 3, f: 1, slots: 2, phases: 4, room: 4 };
+    let mut calls = vec![Call::Open { plan, start: 0 }];
+    calls.extend([Call::Submit { who: 0, tag: 5 }, Call::Relay { who: 1, tag: 5 }]);
+    calls.extend([Call::Submit { who: 2, tag: 9 }, begin(0), begin(1), begin(2)]);
+    calls.extend([hear(0, 1, 1), advance(0), hear(1, 0, 1), advance(1)]);
+    calls.extend([hear(0, 1, 2), advance(0), hear(1, 0, 2), advance(1)]);
+    calls.extend([hear(0, 1, 3), advance(0), advance(0), hear(2, 0, 3), advance(2)]);
+    calls.extend([Call::Crash { who: 1 }, hear(0, 1, 3)]);
+    calls
+}
+
+const WORKED_INPUT: &str = "00 03 01 02 04 04 00 00 00  01 00 05 00 00 00 00 00 00 00  02 01 05 00 00 00 00 00 00 00 \
+     01 02 09 00 00 00 00 00 00 00  03 00  03 01  03 02  04 00 01 01 00 00  05 00  04 01 00 01 00 00  05 01 \
+     04 00 01 02 00 01  05 00  04 01 00 02 00 01  05 01  04 00 01 03 00 01  05 00  05 00  04 02 00 03 00 01  05 02 \
+     06 01  04 00 01 03 00 01";
+
+const WORKED_OUTPUT: &str = "controllers 3 spare 1
+refused 18 13
+refused 20 14
+refused 22 18
+bench 0 lit 1 5
+bench 1 dark 0
+bench 2 lit 0
+";
+
+#[test]
+fn worked_session_byte_for_byte() {
+    let mut written = Vec::new();
+    for call in worked_session() {
+        write_record(&mut written, &call);
+    }
+    let input: Result<Vec<u8>, _> =
+        WORKED_INPUT.split_whitespace().map(|byte| u8::from_str_radix(byte, 16)).collect();
+    assert_eq!(input, Ok(written.clone()));
+    assert_eq!(String::from_utf8(report(&written)).as_deref(), Ok(WORKED_OUTPUT));
+}
+
+#[test]
+fn empty_input_gives_empty_output() {
+    assert!(report(&[]).is_empty());
+}
+
+#[test]
+fn reading_stops_at_19_and_20_and_the_benches_follow() {
+    let opening = [0, 1, 0, 1, 1, 1, 0, 0, 0];
+    let benches = "bench 0 lit 0\n";
+    let output = |tail: &[u8]| String::from_utf8(report(&[&opening, tail].concat())).expect("text");
+    assert_eq!(output(&[8, 3, 0]), format!("controllers 1 spare 0\nrefused 2 19\n{benches}"));
+    assert_eq!(output(&[0, 1, 0]), format!("controllers 1 spare 0\nrefused 2 20\n{benches}"));
+    assert_eq!(output(&opening), format!("controllers 1 spare 0\nrefused 2 21\n{benches}"));
+    assert_eq!(report(&[3, 0, 3]), b"refused 1 21\nrefused 2 20\n");
+}
+
+#[test]
+fn larger_openings_are_short_after_1_and_21() {
+    assert_eq!(report(&[0, 8, 0, 1, 1, 1, 0, 0, 0]), b"refused 1 2\n");
+    assert_eq!(report(&[0, 1, 0, 1, 9, 1, 0, 0, 0]), b"refused 1 2\n");
+    assert_eq!(report(&[0, 8, 4, 1, 1, 1, 0, 0, 0]), b"refused 1 1\n");
+}
+
+/// A record that ends at byte 65,536 is whole, one that goes on is cut, and what follows is not read.
+#[test]
+fn first_65536_bytes_only() {
+    let opening = [0, 1, 0, 1, 1, 1, 0, 0, 0];
+    let crash = [6, 0];
+    let whole = [&opening[..], &opening[..], &crash.repeat(32_759)].concat();
+    assert_eq!(whole.len(), 65_536);
+    let ends = |input: &[u8], end: &str| {
+        String::from_utf8_lossy(&report(input)).ends_with(&format!("{end}\nbench 0 dark 0\n"))
+    };
+    assert!(ends(&whole, "refused 32761 5"));
+    assert!(ends(&[&whole[..], &[6, 0]].concat(), "refused 32761 5"));
+    // One opening more, and the last crash stands across the end.
+    assert!(ends(&[&opening[..], &whole].concat(), "refused 32758 20"));
+}

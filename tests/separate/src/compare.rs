@@ -1,0 +1,92 @@
+//! One call or one step file, made of both implementations on equal tables.
+
+use crate::call::{Answer, Call, Done};
+use crate::library;
+use crate::numbers::Numbers;
+use crate::refusal::Refusal;
+use crate::step_file::{self, Played};
+use crate::tables::Tables;
+
+/// What differed, in words.
+pub type Difference = String;
+
+/// The tables of both; equal before and after each call, or there is a difference.
+pub struct Pair {
+    pub ours: Tables,
+    pub theirs: Tables,
+}
+
+impl Pair {
+    pub fn of(tables: Tables) -> Pair {
+        Pair { theirs: tables.clone(), ours: tables }
+    }
+
+    /// Makes one call of both and compares the answers and every cell.
+    pub fn call(&mut self, call: &Call, numbers: &Numbers) -> Result<Result<Done, Refusal>, Difference> {
+        let result = call.make(numbers, &mut self.ours);
+        let ours = Answer::from(&result);
+        let theirs = library::make(call, numbers, &mut self.theirs);
+        let shown = format_args!("{call:?} of {numbers:?}");
+        if ours != theirs {
+            return Err(format!("{shown}\nours {ours:?}\nlibrary's {theirs:?}"));
+        }
+        if self.ours != self.theirs {
+            return Err(format!("{shown}, answer {ours:?}\n{}", first_difference(&self.ours, &self.theirs)));
+        }
+        Ok(result)
+    }
+}
+
+/// Plays a step file with both on equal tables: the library's answer, report and every cell must be ours. The
+/// library's buffer is `room` bytes long; it cuts a longer report there and leaves the rest of the buffer alone.
+pub fn compare_play(most: &Numbers, file: &[u8], room: usize, lent: Tables) -> Result<(), Difference> {
+    const UNTOUCHED: u8 = 0xa5;
+    let mut pair = Pair::of(lent);
+    let Played { opened, mut report } = step_file::play(most, file, &mut pair.ours);
+    let mut buffer = vec![UNTOUCHED; room];
+    let theirs = library::play(most, file, &mut buffer, &mut pair.theirs);
+    report.truncate(room);
+    let ours = library::Played {
+        written: report.len(),
+        opened: usize::from(opened.is_some()),
+        numbers: opened.unwrap_or_default(),
+    };
+    if ours != theirs {
+        return Err(format!("play\nours {ours:?}\nlibrary's {theirs:?}"));
+    }
+    report.resize(room, UNTOUCHED);
+    if report != buffer {
+        return Err(format!("play\n{}", first_line(&report, &buffer)));
+    }
+    if pair.ours != pair.theirs {
+        return Err(format!("play\n{}", first_difference(&pair.ours, &pair.theirs)));
+    }
+    Ok(())
+}
+
+/// The first line in which two reports differ.
+pub fn first_line(ours: &[u8], theirs: &[u8]) -> Difference {
+    let lines =
+        |report: &[u8]| String::from_utf8_lossy(report).lines().map(str::to_string).collect::<Vec<_>>();
+    let (ours, theirs) = (lines(ours), lines(theirs));
+    let line =
+        (0..).find(|&line| ours.get(line) != theirs.get(line) || line >= ours.len()).unwrap_or_default();
+    format!("line {}\nours {:?}\nlibrary's {:?}", line + 1, ours.get(line), theirs.get(line))
+}
+
+fn first_difference(ours: &Tables, theirs: &Tables) -> Difference {
+    fn cell<T: PartialEq + std::fmt::Debug>(table: &str, ours: &[T], theirs: &[T]) -> Option<Difference> {
+        let place = ours.iter().zip(theirs).position(|(one, other)| one != other)?;
+        Some(format!("{table}, cell {place}\nours {:?}\nlibrary's {:?}", ours[place], theirs[place]))
+    }
+    cell("records", &ours.records, &theirs.records)
+        .or_else(|| cell("known", &[ours.known], &[theirs.known]))
+        .or_else(|| cell("tags", &ours.tags, &theirs.tags))
+        .or_else(|| cell("holders", &ours.holders, &theirs.holders))
+        .or_else(|| cell("proposals", &ours.proposals, &theirs.proposals))
+        .or_else(|| cell("ballots", &ours.ballots, &theirs.ballots))
+        .or_else(|| cell("heard", &ours.heard, &theirs.heard))
+        .or_else(|| cell("logs", &ours.logs, &theirs.logs))
+        .or_else(|| cell("strip", &ours.strip, &theirs.strip))
+        .unwrap_or_default()
+}

@@ -1,0 +1,332 @@
+//! Draws calls and step files by a seed. They are steered by the rules themselves: a drawn call is tried first, and
+//! mostly accepted ones are kept.
+
+use crate::call::Call;
+use crate::coin::PATTERN;
+use crate::numbers::{
+    Message, Numbers, Sort, MOST_PHASES, MOST_REPLICAS, MOST_ROOM, MOST_SLOTS, USUAL_PHASES,
+};
+use crate::random::Random;
+use crate::rules;
+use crate::step_file::{body_length, write_record, REHEARSAL_BYTES};
+use crate::tables::{Tables, IDLE, STATE, VOTE};
+
+/// What differs from one session to the next, so that agreement, quarrel, crashes and stragglers all occur.
+pub struct Habits {
+    /// How many different orders are about, and an odd number that spreads their tags over 64 bits.
+    tags: usize,
+    spread: u64,
+    /// A bare majority of the replicas has one order and the others another: views differ most.
+    camps: bool,
+    /// Replicas advance as soon as a quorum is heard.
+    hasty: bool,
+    crash_odds: usize,
+    /// A replica that hears all and advances seldom; none if the number is n or more.
+    straggler: usize,
+    /// The odds of hearing what the replica does not wait for.
+    stray_odds: usize,
+}
+
+impl Habits {
+    pub fn draw(random: &mut Random, n: usize) -> Habits {
+        Habits {
+            tags: random.pick(&[1, 2, 3, 5, 12, 300]),
+            spread: random.pick(&[1, (1 << 32) + 1, 0x9e37_79b9_7f4a_7c15]),
+            camps: random.one_in(2),
+            hasty: random.one_in(2),
+            crash_odds: random.pick(&[50, 500, usize::MAX, usize::MAX]),
+            straggler: random.below(2 * n),
+            stray_odds: random.pick(&[1, 4, 40]),
+        }
+    }
+
+    fn tag(&self, random: &mut Random, numbers: &Numbers, who: usize) -> u64 {
+        let drawn = random.below(self.tags) as u64;
+        let camp = u64::from(self.camps && who >= numbers.majority());
+        (1 + 2 * drawn + camp).wrapping_mul(self.spread)
+    }
+}
+
+/// Numbers of a run that `most` lets in; small limits are frequent, since runs reach them.
+pub fn small_plan(random: &mut Random, most: &Numbers) -> Numbers {
+    let n = if random.one_in(6) { random.between(1, most.n) } else { random.between(most.n.min(3), most.n) };
+    let most_crashes = (n - 1) / 2;
+    let f = if random.one_in(4) { random.between(0, most_crashes) } else { most_crashes };
+    let slots = if random.one_in(8) { most.slots } else { random.between(1, most.slots.min(3)) };
+    let phases = if random.one_in(8) { most.phases } else { random.between(1, most.phases.min(4)) };
+    let room = if random.one_in(2) { most.room } else { random.between(1, most.room.min(4)) };
+    let usual = most.phases >= USUAL_PHASES && random.one_in(4);
+    Numbers { n, f, slots, phases: if usual { 0 } else { phases }, room }
+}
+
+/// One of the numbers at, around or far beyond its limit.
+pub fn strange_numbers(random: &mut Random, numbers: &Numbers) -> Numbers {
+    let mut strange = *numbers;
+    match random.below(5) {
+        0 => strange.n = random.around(MOST_REPLICAS),
+        1 => strange.f = random.around(numbers.n / 2),
+        2 => strange.slots = random.around(MOST_SLOTS),
+        3 => strange.phases = random.around(MOST_PHASES),
+        _ => strange.room = random.around(MOST_ROOM),
+    }
+    strange
+}
+
+/// Numbers at and past each limit.
+pub fn limit_plan(random: &mut Random) -> Numbers {
+    let mut plan = small_plan(random, &Numbers { n: 7, f: 3, slots: 4, phases: 4, room: 4 });
+    match random.below(5) {
+        0 => plan.n = random.pick(&[0, 7, 8, MOST_REPLICAS, MOST_REPLICAS + 1, 255]),
+        1 => plan.f = random.pick(&[plan.n / 2, plan.n / 2 + 1, plan.n, 127, 128, 255]),
+        2 => plan.slots = random.pick(&[0, 16, 17, MOST_SLOTS, MOST_SLOTS + 1, 255]),
+        3 => plan.phases = random.pick(&[0, 8, 9, MOST_PHASES, MOST_PHASES + 1, 255]),
+        _ => plan.room = random.pick(&[0, 64, 65, MOST_ROOM, MOST_ROOM + 1, 65_535]),
+    }
+    plan
+}
+
+/// A coin start at and past its limit, or an ordinary one.
+pub fn start(random: &mut Random) -> usize {
+    random.pick(&[0, 1, 510, 511, 65_535, PATTERN / 2, PATTERN / 3, PATTERN / 5])
+}
+
+/// A call that the run accepts, if a few draws find one.
+pub fn likely_call(random: &mut Random, numbers: &Numbers, habits: &Habits, tables: &Tables) -> Call {
+    let mut call = drawn_call(random, numbers, habits, tables);
+    for _ in 0..random.below(6) {
+        if call.make(numbers, &mut tables.clone()).is_ok() {
+            break;
+        }
+        call = drawn_call(random, numbers, habits, tables);
+    }
+    call
+}
+
+fn drawn_call(random: &mut Random, numbers: &Numbers, habits: &Habits, tables: &Tables) -> Call {
+    let who = random.below(numbers.n);
+    if random.one_in(habits.crash_odds) && (crashed(numbers, tables) < numbers.f || random.one_in(8)) {
+        return Call::Crash { who };
+    }
+    let tag = habits.tag(random, numbers, who);
+    let idle = tables.record(who).is_none_or(|record| record.round == IDLE);
+    let straggles = who == habits.straggler;
+    match random.below(8) {
+        0 if idle => Call::Submit { who, tag },
+        1 if idle => Call::Relay { who, tag },
+        2 | 3 if idle => Call::Begin { who },
+        0 if !straggles => Call::Advance { who },
+        1 if !straggles || random.one_in(24) => Call::RunOn { who },
+        2 if random.one_in(2) => any_hear(random, numbers, who, tables),
+        3..6 if habits.hasty && !straggles && !idle => Call::Advance { who },
+        _ => {
+            let narrow = !straggles && !random.one_in(habits.stray_odds);
+            let other = match (idle, straggles) {
+                (true, _) => Call::Submit { who, tag },
+                (false, true) => any_hear(random, numbers, who, tables),
+                (false, false) => Call::Advance { who },
+            };
+            unheard(random, numbers, who, narrow, tables).unwrap_or(other)
+        }
+    }
+}
+
+/// How many replicas have crashed.
+fn crashed(numbers: &Numbers, tables: &Tables) -> usize {
+    (0..numbers.n).filter(|&replica| tables.record(replica).is_some_and(|record| record.crashed != 0)).count()
+}
+
+/// One of the messages of the receiver's slot that were sent and that it has not heard; if `narrow`, one that its
+/// round waits for.
+fn unheard(
+    random: &mut Random,
+    numbers: &Numbers,
+    receiver: usize,
+    narrow: bool,
+    tables: &Tables,
+) -> Option<Call> {
+    let record = tables.record(receiver)?;
+    let (slot, current) = (usize::from(record.slot), usize::from(record.phase));
+    if !tables.fit(numbers) || slot >= numbers.slots {
+        return None;
+    }
+    let awaited = match record.round {
+        STATE => (Sort::State, current),
+        VOTE => (Sort::Vote, current),
+        _ => (Sort::Proposal, 0),
+    };
+    let ballots = (1..=numbers.phases).flat_map(|phase| [(Sort::State, phase), (Sort::Vote, phase)]);
+    let all = ballots.chain([(Sort::Proposal, 0)]).filter(|&message| !narrow || message == awaited);
+    let mut calls = Vec::new();
+    for (sort, phase) in all {
+        let message = Message { sort, slot, phase };
+        let wanted = |&sender: &usize| {
+            tables.was_sent(numbers, message, sender) && !tables.was_heard(numbers, message, sender, receiver)
+        };
+        let hear = |sender| Call::Hear { receiver, sender, sort: sort as usize, slot, phase };
+        calls.extend((0..numbers.n).filter(wanted).map(hear));
+    }
+    (!calls.is_empty()).then(|| random.pick(&calls))
+}
+
+/// Any message of a low phase, whether it was sent or not, mostly of the receiver's slot.
+fn any_hear(random: &mut Random, numbers: &Numbers, receiver: usize, tables: &Tables) -> Call {
+    let record = tables.record(receiver).unwrap_or_default();
+    let sender = random.below(numbers.n);
+    let sort = random.between(1, 3);
+    let slot = if random.one_in(2) { usize::from(record.slot) } else { random.below(numbers.slots) };
+    let phase = if sort == 1 { 0 } else { random.between(1, numbers.phases.min(3)) };
+    Call::Hear { receiver, sender, sort, slot, phase }
+}
+
+/// A call with arguments at, around and far beyond their limits.
+pub fn strange_call(random: &mut Random, numbers: &Numbers) -> Call {
+    let n = numbers.n.min(MOST_REPLICAS);
+    let who = random.around(n);
+    let tag = random.around(8) as u64;
+    match random.below(16) {
+        0 | 1 => Call::Submit { who, tag },
+        2 | 3 => Call::Relay { who, tag },
+        4 | 5 => Call::Begin { who },
+        6 | 7 => Call::Advance { who },
+        8 | 9 => Call::RunOn { who },
+        10 => Call::Crash { who },
+        _ => strange_hear(random, numbers, n),
+    }
+}
+
+/// One argument is strange, the others lie within the run's numbers.
+fn strange_hear(random: &mut Random, numbers: &Numbers, n: usize) -> Call {
+    let (slots, phases) = (numbers.slots.clamp(1, MOST_SLOTS), numbers.phases.clamp(1, MOST_PHASES));
+    let (mut receiver, mut sender) = (random.below(n.max(1)), random.below(n.max(1)));
+    let mut sort = random.between(1, 3);
+    let mut slot = random.below(slots);
+    let mut phase = if sort == 1 { 0 } else { random.between(1, phases) };
+    match random.below(5) {
+        0 => receiver = random.around(n),
+        1 => sender = random.around(n),
+        2 => sort = random.around(3),
+        3 => slot = random.around(slots),
+        _ => phase = random.around(phases),
+    }
+    Call::Hear { receiver, sender, sort, slot, phase }
+}
+
+/// A mostly valid session of a run that `most` lets in.
+pub fn session(random: &mut Random, most: &Numbers) -> Vec<u8> {
+    let plan = small_plan(random, most);
+    let start = random.below(PATTERN);
+    let opening = Call::Open { plan, start };
+    let mut file = Vec::new();
+    write_record(&mut file, &opening);
+    let numbers = rules::planned(&plan, start).expect("numbers within the limits");
+    let mut tables = Tables::of_run(&numbers);
+    opening.make(&numbers, &mut tables).expect("tables of the run's lengths");
+    let habits = Habits::draw(random, numbers.n);
+    for _ in 0..random.pick(&[30, 200, 600, 1200]) {
+        let strange = random.one_in(100);
+        let call = if strange {
+            strange_call(random, &numbers)
+        } else {
+            likely_call(random, &numbers, &habits, &tables)
+        };
+        if call.make(&numbers, &mut tables).is_ok() || random.one_in(16) {
+            write_record(&mut file, &call);
+        }
+    }
+    file
+}
+
+/// Random records, most of them after an opening.
+pub fn wild_session(random: &mut Random, most: &Numbers) -> Vec<u8> {
+    let mut file = Vec::new();
+    if !random.one_in(4) {
+        let plan = if random.one_in(3) { limit_plan(random) } else { small_plan(random, most) };
+        write_record(&mut file, &Call::Open { plan, start: random.below(PATTERN) });
+    }
+    for _ in 0..random.below(80) {
+        let kind = if random.one_in(200) { random.below(256) } else { random.below(8) };
+        file.push(kind as u8);
+        for _ in 0..body_length(kind as u8).unwrap_or(3) {
+            let byte = if random.one_in(6) { random.below(256) } else { random.below(4) };
+            file.push(byte as u8);
+        }
+    }
+    file
+}
+
+/// A session that is broken in one of the ways a step file can be.
+pub fn broken_session(random: &mut Random, most: &Numbers) -> Vec<u8> {
+    let mut file = session(random, most);
+    match random.below(6) {
+        0 => file.truncate(random.below(file.len() + 1)),
+        1 => drop(file.drain(..9)),
+        2 => file.push(random.between(8, 255) as u8),
+        3 => put_in(random, &mut file),
+        4 => file = [openings(random), file].concat(),
+        _ => {
+            let place = random.below(file.len());
+            file[place] = random.below(256) as u8;
+        }
+    }
+    file
+}
+
+/// Openings at and past the limits.
+fn openings(random: &mut Random) -> Vec<u8> {
+    let mut file = Vec::new();
+    for _ in 0..random.between(1, 6) {
+        let plan = limit_plan(random);
+        write_record(&mut file, &Call::Open { plan, start: start(random) });
+    }
+    file
+}
+
+/// Puts an opening or an unknown kind at the start of a record in the middle.
+fn put_in(random: &mut Random, file: &mut Vec<u8>) {
+    let place = random.pick(&record_places(file));
+    let extra = if random.one_in(4) { vec![random.between(8, 255) as u8] } else { openings(random) };
+    file.splice(place..place, extra);
+}
+
+/// Where records start, and where the last whole one ends.
+pub fn record_places(file: &[u8]) -> Vec<usize> {
+    let mut places = vec![0];
+    let mut place = 0;
+    while let Some(length) = file.get(place).copied().and_then(body_length) {
+        place += 1 + length;
+        if place > file.len() {
+            break;
+        }
+        places.push(place);
+    }
+    places
+}
+
+/// A file with more bytes than the rehearsal program takes, or exactly as many. A record ends at that place, or one
+/// straddles it.
+pub fn long_session(random: &mut Random, most: &Numbers) -> Vec<u8> {
+    let mut file = session(random, most);
+    while file.len() + 40 < REHEARSAL_BYTES {
+        let call = if random.one_in(3) {
+            Call::Advance { who: random.below(9) }
+        } else {
+            Call::Submit { who: random.below(9), tag: random.below(90) as u64 }
+        };
+        write_record(&mut file, &call);
+    }
+    pad_to(&mut file, REHEARSAL_BYTES - random.pick(&[0, 0, 2, 3, 5, 8, 9]));
+    for _ in 0..random.below(6) {
+        write_record(&mut file, &Call::Submit { who: 0, tag: random.word() });
+    }
+    file
+}
+
+/// Pads with records up to a length that is at least 9 away.
+fn pad_to(file: &mut Vec<u8>, length: usize) {
+    if (length - file.len()) % 2 == 1 {
+        write_record(file, &Call::Open { plan: Numbers::default(), start: 0 });
+    }
+    while file.len() < length {
+        write_record(file, &Call::Begin { who: 0 });
+    }
+}

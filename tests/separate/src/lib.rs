@@ -1,0 +1,21 @@
+//! Document 01's order log, written from the document and apart from the library, and what compares the two: by
+//! whole step files (the program `sessions`) and by direct calls on ordinary and damaged tables (`calls`).
+
+pub mod call;
+#[cfg(test)]
+mod check_points;
+pub mod coin;
+#[cfg(feature = "library")]
+pub mod compare;
+pub mod damage;
+pub mod generate;
+#[cfg(feature = "library")]
+pub mod library;
+pub mod numbers;
+pub mod options;
+pub mod random;
+pub mod refusal;
+pub mod rules;
+pub mod step_file;
+pub mod tables;
+pub mod tally;

@@ -1,0 +1,33 @@
+//! The refusals of document 01, in the order of its table.
+
+/// "A refusal returns its number and changes nothing at all."
+#[derive(Clone, Copy, Debug, PartialEq, Eq)]
+pub enum Refusal {
+    BadPlan = 1,
+    ShortTable,
+    SpoiledRecord,
+    NoSuchBench,
+    Dark,
+    BlankTag,
+    Held,
+    TagRoomFull,
+    UnknownTag,
+    Busy,
+    LogFull,
+    NothingPending,
+    Idle,
+    TooFewHeard,
+    PhasesUsedUp,
+    NoSuchMessage,
+    Unsent,
+    Heard,
+    UnknownKind,
+    CutRecord,
+    OutOfPlace,
+}
+
+impl Refusal {
+    pub fn number(self) -> usize {
+        self as usize
+    }
+}

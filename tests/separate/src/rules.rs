@@ -1,0 +1,337 @@
+//! The calls of document 01 over lent tables. A refused call changes nothing.
+
+use crate::coin::{self, PATTERN};
+use crate::numbers::{Message, Numbers, Sort, USUAL_PHASES};
+use crate::refusal::Refusal;
+use crate::tables::{bit, Record, Tables, EXCHANGE, FIND, IDLE, ONE, STATE, UNDECIDED, VOTE, ZERO};
+
+/// What an accepted submit found.
+#[derive(Clone, Copy, Debug, PartialEq, Eq)]
+pub enum Submitted {
+    New,
+    Known,
+}
+
+/// What an accepted advance did.
+#[derive(Clone, Copy, Debug, PartialEq, Eq)]
+pub enum Advanced {
+    /// The exchange gave this state.
+    Exchanged(u8),
+    Voted(u8),
+    /// On to the next phase with a state that was voted for.
+    NextByVote(u8),
+    NextByCoin(u8),
+    ClosedEmpty,
+    ClosedWith(u64),
+    EnteredFind,
+    /// Closed out of the find round.
+    Found(u64),
+}
+
+/// Why a run on stopped.
+#[derive(Clone, Copy, Debug, PartialEq, Eq)]
+pub enum Stop {
+    Closed,
+    Refused(Refusal),
+}
+
+#[derive(Clone, Copy, Debug, PartialEq, Eq)]
+pub struct Ran {
+    pub advances: usize,
+    pub stop: Stop,
+}
+
+/// "Opening: 1, 2." Answers the numbers of the run, in which a phase limit of 0 has become 8.
+pub fn open(plan: &Numbers, start: usize, tables: &mut Tables) -> Result<Numbers, Refusal> {
+    let numbers = planned(plan, start)?;
+    if !tables.fit(&numbers) {
+        return Err(Refusal::ShortTable);
+    }
+    tables.clear(&numbers);
+    coin::fill(numbers.slots, numbers.phases, start, &mut tables.strip);
+    Ok(numbers)
+}
+
+/// The numbers that an opening stands for, or refusal 1.
+pub fn planned(plan: &Numbers, start: usize) -> Result<Numbers, Refusal> {
+    let phases = if plan.phases == 0 { USUAL_PHASES } else { plan.phases };
+    let numbers = Numbers { phases, ..*plan };
+    if numbers.within_limits() && start < PATTERN {
+        Ok(numbers)
+    } else {
+        Err(Refusal::BadPlan)
+    }
+}
+
+/// "Steps: 3, 2, 4, 5". The first of the replicas named is the acting one; its record is the answer.
+fn admit(numbers: &Numbers, named: &[usize], tables: &Tables) -> Result<Record, Refusal> {
+    if !numbers.within_limits() || tables.are_spoiled(numbers) {
+        return Err(Refusal::SpoiledRecord);
+    }
+    if !tables.fit(numbers) {
+        return Err(Refusal::ShortTable);
+    }
+    if named.iter().any(|&replica| replica >= numbers.n) {
+        return Err(Refusal::NoSuchBench);
+    }
+    match tables.record(named[0]) {
+        Some(record) if record.crashed == 0 => Ok(record),
+        _ => Err(Refusal::Dark),
+    }
+}
+
+/// "the tag becomes known, if it wasn't, and this controller holds it."
+pub fn submit(numbers: &Numbers, who: usize, tag: u64, tables: &mut Tables) -> Result<Submitted, Refusal> {
+    admit(numbers, &[who], tables)?;
+    if tag == 0 {
+        return Err(Refusal::BlankTag);
+    }
+    if tables.holds(who, tag) {
+        return Err(Refusal::Held);
+    }
+    match tables.place(tag) {
+        Some(place) => {
+            tables.holders[place] |= bit(who);
+            Ok(Submitted::Known)
+        }
+        None if usize::from(tables.known) == numbers.room => Err(Refusal::TagRoomFull),
+        None => {
+            tables.add_tag(tag, who);
+            Ok(Submitted::New)
+        }
+    }
+}
+
+/// "a known tag is held by one more controller."
+pub fn relay(numbers: &Numbers, who: usize, tag: u64, tables: &mut Tables) -> Result<(), Refusal> {
+    admit(numbers, &[who], tables)?;
+    if tag == 0 {
+        return Err(Refusal::BlankTag);
+    }
+    let place = tables.place(tag).ok_or(Refusal::UnknownTag)?;
+    if tables.holds(who, tag) {
+        return Err(Refusal::Held);
+    }
+    tables.holders[place] |= bit(who);
+    Ok(())
+}
+
+/// "an idle controller proposes its smallest pending tag and enters the exchange." Answers that tag.
+pub fn begin(numbers: &Numbers, who: usize, tables: &mut Tables) -> Result<u64, Refusal> {
+    let record = admit(numbers, &[who], tables)?;
+    if record.round != IDLE {
+        return Err(Refusal::Busy);
+    }
+    let slot = usize::from(record.slot);
+    if slot == numbers.slots {
+        return Err(Refusal::LogFull);
+    }
+    let tag = tables.smallest_pending(numbers, who, slot).ok_or(Refusal::NothingPending)?;
+    tables.send_proposal(numbers, slot, who, tag);
+    tables.set_record(who, Record { round: EXCHANGE, phase: 0, ..record });
+    Ok(tag)
+}
+
+/// The receiver acts. Messages of any slot and phase may be heard, also those of a crashed sender.
+pub fn hear(
+    numbers: &Numbers,
+    receiver: usize,
+    sender: usize,
+    sort: usize,
+    slot: usize,
+    phase: usize,
+    tables: &mut Tables,
+) -> Result<(), Refusal> {
+    admit(numbers, &[receiver, sender], tables)?;
+    let message = message(numbers, sort, slot, phase).ok_or(Refusal::NoSuchMessage)?;
+    if !tables.was_sent(numbers, message, sender) {
+        return Err(Refusal::Unsent);
+    }
+    if tables.was_heard(numbers, message, sender, receiver) {
+        return Err(Refusal::Heard);
+    }
+    tables.heard[numbers.heard_cell(message, sender)] |= bit(receiver);
+    Ok(())
+}
+
+/// The message that the numbers of a hear name: "sort (1 proposal, 2 state, 3 vote), slot, phase (0 for a proposal)".
+fn message(numbers: &Numbers, sort: usize, slot: usize, phase: usize) -> Option<Message> {
+    let sort = match sort {
+        1 => Sort::Proposal,
+        2 => Sort::State,
+        3 => Sort::Vote,
+        _ => return None,
+    };
+    let phases = if sort == Sort::Proposal { 0..=0 } else { 1..=numbers.phases };
+    (slot < numbers.slots && phases.contains(&phase)).then_some(Message { sort, slot, phase })
+}
+
+/// One step by the round that the replica is in.
+pub fn advance(numbers: &Numbers, who: usize, tables: &mut Tables) -> Result<Advanced, Refusal> {
+    let record = admit(numbers, &[who], tables)?;
+    advance_from(numbers, who, record, tables)
+}
+
+/// "advance repeatedly until a slot is closed or the next advance is refused". No accepted advance spoils a record
+/// or crashes a replica, so only the first needs to be admitted.
+pub fn run_on(numbers: &Numbers, who: usize, tables: &mut Tables) -> Result<Ran, Refusal> {
+    let record = admit(numbers, &[who], tables)?;
+    let mut last = advance_from(numbers, who, record, tables)?;
+    let mut advances = 1;
+    while !last.closes() {
+        let record = tables.record(who).unwrap_or_default();
+        match advance_from(numbers, who, record, tables) {
+            Ok(next) => last = next,
+            Err(refusal) => return Ok(Ran { advances, stop: Stop::Refused(refusal) }),
+        }
+        advances += 1;
+    }
+    Ok(Ran { advances, stop: Stop::Closed })
+}
+
+impl Advanced {
+    fn closes(self) -> bool {
+        matches!(self, Advanced::ClosedEmpty | Advanced::ClosedWith(_) | Advanced::Found(_))
+    }
+}
+
+fn advance_from(
+    numbers: &Numbers,
+    who: usize,
+    record: Record,
+    tables: &mut Tables,
+) -> Result<Advanced, Refusal> {
+    match record.round {
+        EXCHANGE => exchange(numbers, who, record, tables),
+        STATE => vote(numbers, who, record, tables),
+        VOTE => count_votes(numbers, who, record, tables),
+        FIND => find(numbers, who, record, tables),
+        _ => Err(Refusal::Idle),
+    }
+}
+
+/// "its state is 1 if one tag has a majority among them, else 0."
+fn exchange(numbers: &Numbers, who: usize, record: Record, tables: &mut Tables) -> Result<Advanced, Refusal> {
+    let slot = usize::from(record.slot);
+    if tables.heard_proposals(numbers, slot, who).count() < numbers.quorum() {
+        return Err(Refusal::TooFewHeard);
+    }
+    let state = if majority_tag(numbers, who, slot, tables).is_some() { ONE } else { ZERO };
+    send_state(numbers, who, Record { phase: 1, ..record }, state, tables);
+    Ok(Advanced::Exchanged(state))
+}
+
+/// "it votes for the value with a majority, else `?`."
+fn vote(numbers: &Numbers, who: usize, record: Record, tables: &mut Tables) -> Result<Advanced, Refusal> {
+    let (slot, phase) = (usize::from(record.slot), usize::from(record.phase));
+    let states = tables.count(numbers, Message { sort: Sort::State, slot, phase }, who);
+    if states.total() < numbers.quorum() {
+        return Err(Refusal::TooFewHeard);
+    }
+    let vote = if states.zeros >= numbers.majority() {
+        ZERO
+    } else if states.ones >= numbers.majority() {
+        ONE
+    } else {
+        UNDECIDED
+    };
+    tables.send_ballot(numbers, Message { sort: Sort::Vote, slot, phase }, who, vote);
+    tables.set_record(who, Record { round: VOTE, ..record });
+    Ok(Advanced::Voted(vote))
+}
+
+/// "a value with at least f + 1 votes is the outcome. Else, if a 0 or a 1 was heard, that is its state; else the
+/// coin of this slot and phase." 15 is for a round that would go on, so an outcome comes before it.
+fn count_votes(
+    numbers: &Numbers,
+    who: usize,
+    record: Record,
+    tables: &mut Tables,
+) -> Result<Advanced, Refusal> {
+    let (slot, phase) = (usize::from(record.slot), usize::from(record.phase));
+    let votes = tables.count(numbers, Message { sort: Sort::Vote, slot, phase }, who);
+    if votes.total() < numbers.quorum() {
+        return Err(Refusal::TooFewHeard);
+    }
+    if votes.zeros > numbers.f {
+        close(numbers, who, record, 0, tables);
+        return Ok(Advanced::ClosedEmpty);
+    }
+    if votes.ones > numbers.f {
+        return Ok(close_with_majority(numbers, who, record, tables));
+    }
+    if phase == numbers.phases {
+        return Err(Refusal::PhasesUsedUp);
+    }
+    let voted = votes.any_value();
+    let state = voted.unwrap_or_else(|| coin(numbers, slot, phase, tables));
+    send_state(numbers, who, Record { phase: record.phase + 1, ..record }, state, tables);
+    Ok(if voted.is_some() { Advanced::NextByVote(state) } else { Advanced::NextByCoin(state) })
+}
+
+/// "where none has, the controller enters the find round, and later advances try again."
+fn find(numbers: &Numbers, who: usize, record: Record, tables: &mut Tables) -> Result<Advanced, Refusal> {
+    let slot = usize::from(record.slot);
+    let tag = majority_tag(numbers, who, slot, tables).ok_or(Refusal::TooFewHeard)?;
+    close(numbers, who, record, tag, tables);
+    Ok(Advanced::Found(tag))
+}
+
+/// "Outcome 1 closes it with the tag that has a majority among the proposals heard".
+fn close_with_majority(numbers: &Numbers, who: usize, record: Record, tables: &mut Tables) -> Advanced {
+    match majority_tag(numbers, who, usize::from(record.slot), tables) {
+        Some(tag) => {
+            close(numbers, who, record, tag, tables);
+            Advanced::ClosedWith(tag)
+        }
+        None => {
+            tables.set_record(who, Record { round: FIND, ..record });
+            Advanced::EnteredFind
+        }
+    }
+}
+
+fn majority_tag(numbers: &Numbers, who: usize, slot: usize, tables: &Tables) -> Option<u64> {
+    let heard = tables.heard_proposals(numbers, slot, who);
+    heard.clone().find(|&tag| heard.clone().filter(|&other| other == tag).count() >= numbers.majority())
+}
+
+/// "even is 0, odd is 1."
+fn coin(numbers: &Numbers, slot: usize, phase: usize, tables: &Tables) -> u8 {
+    match tables.strip[numbers.coin_cell(slot, phase)] % 2 {
+        0 => ZERO,
+        _ => ONE,
+    }
+}
+
+/// Sends the state of the record's slot and phase.
+fn send_state(numbers: &Numbers, who: usize, record: Record, state: u8, tables: &mut Tables) {
+    let (slot, phase) = (usize::from(record.slot), usize::from(record.phase));
+    tables.send_ballot(numbers, Message { sort: Sort::State, slot, phase }, who, state);
+    tables.set_record(who, Record { round: STATE, ..record });
+}
+
+/// The phase stays in the record.
+fn close(numbers: &Numbers, who: usize, record: Record, entry: u64, tables: &mut Tables) {
+    tables.logs[numbers.log_cell(who, usize::from(record.slot))] = entry;
+    tables.set_record(who, Record { round: IDLE, slot: record.slot + 1, ..record });
+}
+
+/// "A crash step is lent one controller's record and darkens it there." One of a number n or more may be lent any
+/// record, so 4 comes before the record is judged.
+pub fn crash(numbers: &Numbers, who: usize, record: &mut Record) -> Result<(), Refusal> {
+    if !numbers.within_limits() {
+        return Err(Refusal::SpoiledRecord);
+    }
+    if who >= numbers.n {
+        return Err(Refusal::NoSuchBench);
+    }
+    if record.is_spoiled(numbers) {
+        return Err(Refusal::SpoiledRecord);
+    }
+    if record.crashed != 0 {
+        return Err(Refusal::Dark);
+    }
+    record.crashed = 1;
+    Ok(())
+}

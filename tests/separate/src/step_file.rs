@@ -1,0 +1,183 @@
+//! Step files: writing and reading their records, playing them, and the report of the rehearsal program.
+
+use crate::call::{Call, Done};
+use crate::numbers::Numbers;
+use crate::refusal::Refusal;
+use crate::rules;
+use crate::tables::Tables;
+use std::io::Write;
+
+/// The rehearsal program has "tables for 7 controllers, 16 slots, 8 phases and 64 tags".
+pub const REHEARSAL: Numbers = Numbers { n: 7, f: 3, slots: 16, phases: 8, room: 64 };
+/// "It takes the first 65,536 bytes of its input and reads no more".
+pub const REHEARSAL_BYTES: usize = 65_536;
+
+/// The opened run, if any, and the report.
+pub struct Played {
+    pub opened: Option<Numbers>,
+    pub report: Vec<u8>,
+}
+
+/// What the rehearsal program writes for this input.
+pub fn report(input: &[u8]) -> Vec<u8> {
+    let taken = &input[..input.len().min(REHEARSAL_BYTES)];
+    play(&REHEARSAL, taken, &mut Tables::of_run(&REHEARSAL)).report
+}
+
+/// Plays a step file on tables for at most the numbers `most`.
+pub fn play(most: &Numbers, file: &[u8], tables: &mut Tables) -> Played {
+    play_seen(most, file, tables, |_, _, _| ())
+}
+
+/// As `play`; `seen` is shown each whole record, what came of it and the tables after it.
+pub fn play_seen(
+    most: &Numbers,
+    file: &[u8],
+    tables: &mut Tables,
+    mut seen: impl FnMut(&Call, &Result<Done, Refusal>, &Tables),
+) -> Played {
+    let mut played = Played { opened: None, report: Vec::new() };
+    let mut place = 0;
+    let mut number = 0;
+    while place < file.len() {
+        number += 1;
+        // "At 19 or 20 reading stops."
+        let (call, next) = match read_record(file, place) {
+            Ok(read) => read,
+            Err(refusal) => {
+                played.refused(number, refusal);
+                break;
+            }
+        };
+        place = next;
+        let result = played.take(most, &call, tables);
+        if let Err(refusal) = result {
+            played.refused(number, refusal);
+        }
+        seen(&call, &result, tables);
+    }
+    played.benches(tables);
+    played
+}
+
+impl Played {
+    /// "step before an accepted opening, or opening after one" is out of place; else the record is the call it makes.
+    fn take(&mut self, most: &Numbers, call: &Call, tables: &mut Tables) -> Result<Done, Refusal> {
+        match (*call, self.opened) {
+            (Call::Open { plan, start }, None) => {
+                if is_larger(&rules::planned(&plan, start)?, most) {
+                    return Err(Refusal::ShortTable);
+                }
+                let numbers = rules::open(&plan, start, tables)?;
+                self.opened = Some(numbers);
+                self.line(format_args!("controllers {} spare {}", numbers.n, numbers.f));
+                Ok(Done::Opened(numbers))
+            }
+            (Call::Open { .. }, Some(_)) | (_, None) => Err(Refusal::OutOfPlace),
+            (_, Some(numbers)) => call.make(&numbers, tables),
+        }
+    }
+
+    fn refused(&mut self, number: usize, refusal: Refusal) {
+        self.line(format_args!("refused {number} {}", refusal.number()));
+    }
+
+    /// "at the end, if opened, a line per controller".
+    fn benches(&mut self, tables: &Tables) {
+        let Some(numbers) = self.opened else { return };
+        for replica in 0..numbers.n {
+            let record = tables.record(replica).unwrap_or_default();
+            let light = if record.crashed == 0 { "lit" } else { "dark" };
+            let log = numbers.log_cell(replica, 0);
+            let entries: String =
+                tables.logs[log..log + usize::from(record.slot)].iter().map(entry).collect();
+            self.line(format_args!("bench {replica} {light} {}{entries}", record.slot));
+        }
+    }
+
+    fn line(&mut self, line: std::fmt::Arguments) {
+        writeln!(self.report, "{line}").expect("writing to memory");
+    }
+}
+
+/// "each entry in decimal, `-` for empty."
+fn entry(tag: &u64) -> String {
+    match tag {
+        0 => " -".to_string(),
+        tag => format!(" {tag}"),
+    }
+}
+
+/// "larger openings get refusal 2", also where a table happens to be long enough.
+fn is_larger(numbers: &Numbers, most: &Numbers) -> bool {
+    numbers.n > most.n
+        || numbers.slots > most.slots
+        || numbers.phases > most.phases
+        || numbers.room > most.room
+}
+
+/// "then a body whose length the kind fixes".
+pub fn body_length(kind: u8) -> Option<usize> {
+    match kind {
+        0 => Some(8),
+        1 | 2 => Some(9),
+        3 | 5 | 6 | 7 => Some(1),
+        4 => Some(5),
+        _ => None,
+    }
+}
+
+/// The record at a place before the end of the file, and the place after it.
+fn read_record(file: &[u8], place: usize) -> Result<(Call, usize), Refusal> {
+    let kind = file[place];
+    let length = body_length(kind).ok_or(Refusal::UnknownKind)?;
+    let body = file[place + 1..].get(..length).ok_or(Refusal::CutRecord)?;
+    Ok((decode(kind, body), place + 1 + length))
+}
+
+/// The call of a whole record of a known kind.
+fn decode(kind: u8, body: &[u8]) -> Call {
+    let byte = |place: usize| usize::from(body[place]);
+    let pair = |place: usize| byte(place) + 256 * byte(place + 1);
+    let tag = || body[1..9].iter().rev().fold(0, |tag, &byte| tag << 8 | u64::from(byte));
+    let who = byte(0);
+    match kind {
+        0 => {
+            let plan = Numbers { n: who, f: byte(1), slots: byte(2), phases: byte(3), room: pair(4) };
+            Call::Open { plan, start: pair(6) }
+        }
+        1 => Call::Submit { who, tag: tag() },
+        2 => Call::Relay { who, tag: tag() },
+        3 => Call::Begin { who },
+        4 => Call::Hear { receiver: who, sender: byte(1), sort: byte(2), slot: byte(3), phase: byte(4) },
+        5 => Call::Advance { who },
+        6 => Call::Crash { who },
+        _ => Call::RunOn { who },
+    }
+}
+
+/// Writes a call as a record. Numbers that do not fit their bytes lose their high part.
+pub fn write_record(file: &mut Vec<u8>, call: &Call) {
+    match *call {
+        Call::Open { plan, start } => {
+            file.extend([0, plan.n as u8, plan.f as u8, plan.slots as u8, plan.phases as u8]);
+            file.extend((plan.room as u16).to_le_bytes());
+            file.extend((start as u16).to_le_bytes());
+        }
+        Call::Submit { who, tag } => {
+            file.extend([1, who as u8]);
+            file.extend(tag.to_le_bytes());
+        }
+        Call::Relay { who, tag } => {
+            file.extend([2, who as u8]);
+            file.extend(tag.to_le_bytes());
+        }
+        Call::Begin { who } => file.extend([3, who as u8]),
+        Call::Hear { receiver, sender, sort, slot, phase } => {
+            file.extend([4, receiver as u8, sender as u8, sort as u8, slot as u8, phase as u8]);
+        }
+        Call::Advance { who } => file.extend([5, who as u8]),
+        Call::Crash { who } => file.extend([6, who as u8]),
+        Call::RunOn { who } => file.extend([7, who as u8]),
+    }
+}

@@ -1,0 +1,268 @@
+"""Tries tools/steps.py. At the repository's root: python3 -m unittest discover -s tests/steps"""
+
+import random
+import re
+import subprocess
+import sys
+import tempfile
+import unittest
+from pathlib import Path
+
+ROOT = Path(__file__).resolve().parents[2]
+TOOL = ROOT / "tools" / "steps.py"
+sys.path.insert(0, str(TOOL.parent))
+
+import steps
+
+# document 01's input, byte for byte as its table of kinds lays it out
+WORKED_BYTES = bytes.fromhex(
+    "00 03 01 02 04 0400 0000"
+    "01 00 0500000000000000  02 01 0500000000000000  01 02 0900000000000000"
+    "03 00  03 01  03 02"
+    "04 00 01 01 00 00  05 00  04 01 00 01 00 00  05 01"
+    "04 00 01 02 00 01  05 00  04 01 00 02 00 01  05 01"
+    "04 00 01 03 00 01  05 00  05 00"
+    "04 02 00 03 00 01  05 02  06 01  04 00 01 03 00 01"
+)
+WORKED_EXPLAINED = """\
+controllers 3 spare 1
+refused 18 13      line 21: advance 0: idle (advance or run on while idle)
+refused 20 14      line 24: advance 2: too few heard (below quota; in find, no majority)
+refused 22 18      line 26: hear 0 1 vote 0 1: heard (the receiver has heard it)
+bench 0 lit 1 5
+bench 1 dark 0
+bench 2 lit 0
+"""
+
+TAG_WANTED = "a tag (a number from 0 to 18446744073709551615, or time:number with each from 0 to 4294967295)"
+STEPS_WANTED = "expected opening, submit, relay, begin, hear, advance, crash or run on"
+HEAR_WANTED = "hear wants 5 words (receiver, sender, sort, slot, phase; no phase for a proposal)"
+
+
+def packed(text):
+    """The bytes of a text, without the command line."""
+    return b"".join(map(steps.step_bytes, steps.read_text("text", text).values()))
+
+
+def unpacked(data):
+    read, broken = steps.read_steps(data)
+    assert broken is None
+    return "".join(steps.step_text(step) + "\n" for step in read)
+
+
+def mistakes(text):
+    try:
+        steps.read_text("text", text)
+    except steps.Mistakes as found:
+        return found.lines
+    return []
+
+
+def command(*arguments, given=b""):
+    done = subprocess.run([sys.executable, TOOL, *arguments], input=given, capture_output=True, check=False)
+    return done.returncode, done.stdout, done.stderr.decode()
+
+
+class Layout(unittest.TestCase):
+    """Each kind's text and bytes, and both ways between them."""
+
+    def check(self, text, *data):
+        self.assertEqual(packed(text), bytes(data))
+        self.assertEqual(unpacked(bytes(data)), text + "\n")
+
+    def test_opening(self):
+        self.check("opening 3 1 2 4 4 0", 0, 3, 1, 2, 4, 4, 0, 0, 0)
+        self.check("opening 15 7 64 32 256 510", 0, 15, 7, 64, 32, 0, 1, 254, 1)
+
+    def test_steps_of_one_controller(self):
+        self.check("begin 7", 3, 7)
+        self.check("advance 0", 5, 0)
+        self.check("crash 14", 6, 14)
+        self.check("run on 255", 7, 255)
+
+    def test_tags(self):
+        self.check("submit 0 5", 1, 0, 5, 0, 0, 0, 0, 0, 0, 0)
+        self.check("relay 1 4294967295", 2, 1, 255, 255, 255, 255, 0, 0, 0, 0)
+        self.check("submit 2 1:0", 1, 2, 0, 0, 0, 0, 1, 0, 0, 0)
+        self.check("submit 2 1355:17", 1, 2, 17, 0, 0, 0, 75, 5, 0, 0)
+        self.check("relay 2 4294967295:4294967295", 2, 2, *[255] * 8)
+        self.assertEqual(packed("submit 0 18446744073709551615"), packed("submit 0 4294967295:4294967295"))
+        self.assertEqual(packed("submit 0 0:5"), packed("submit 0 5"))
+
+    def test_hear(self):
+        self.check("hear 0 1 proposal 2", 4, 0, 1, 1, 2, 0)
+        self.check("hear 0 1 state 2 3", 4, 0, 1, 2, 2, 3)
+        self.check("hear 0 1 vote 2 3", 4, 0, 1, 3, 2, 3)
+
+    def test_what_the_library_refuses_can_be_written(self):
+        self.check("opening 255 255 65 255 65535 65535", 0, 255, 255, 65, 255, 255, 255, 255, 255)
+        self.check("hear 9 200 proposal 255 4", 4, 9, 200, 1, 255, 4)
+        self.check("hear 0 1 vote 0 0", 4, 0, 1, 3, 0, 0)
+        self.check("hear 0 1 0 5 6", 4, 0, 1, 0, 5, 6)
+        self.check("hear 0 1 255 5 0", 4, 0, 1, 255, 5, 0)
+        self.check("submit 0 0", 1, 0, *[0] * 8)
+
+    def test_a_phase_left_out_is_0(self):
+        self.assertEqual(packed("hear 0 1 4 2"), bytes([4, 0, 1, 4, 2, 0]))
+        self.assertEqual(packed("hear 0 1 proposal 2 0"), packed("hear 0 1 proposal 2"))
+
+    def test_lines(self):
+        text = "\ufeff# a comment\r\n\n  begin\t0   # behind a step\r\n#advance 0\n\x0cadvance 1#close"
+        self.assertEqual(command("pack", "-", given=text.encode())[1], bytes([3, 0, 5, 1]))
+        self.assertEqual(packed("begin 000000000000000000000000000000001"), bytes([3, 1]))
+        self.assertEqual(command("pack", "-", given=b"begin 0 # caf\xe9\n")[1], bytes([3, 0]))
+        self.assertEqual(packed(""), b"")
+
+    def test_random_files(self):
+        draw = random.Random(1)
+        for _ in range(300):
+            read = [
+                steps.Step(kind, [draw.choice([0, 1, 256**size - 1, draw.randrange(256**size)]) for _, size in kind.fields])
+                for kind in draw.choices(steps.KINDS, k=draw.randrange(40))
+            ]
+            data = b"".join(map(steps.step_bytes, read))
+            self.assertEqual(steps.read_steps(data), (read, None))
+            self.assertEqual(packed(unpacked(data)), data)
+
+    def test_random_bytes(self):
+        """Whatever the bytes are, those before the broken end come back."""
+        draw = random.Random(2)
+        for _ in range(300):
+            data = bytes(draw.choices(range(12), k=draw.randrange(80)))
+            read, broken = steps.read_steps(data)
+            written = b"".join(map(steps.step_bytes, read))
+            self.assertTrue(data.startswith(written))
+            self.assertEqual(broken is None, written == data)
+
+
+class Mistaken(unittest.TestCase):
+    """Every message, with its line."""
+
+    def check(self, text, *expected):
+        self.assertEqual(mistakes(text), [f"text:1: {line}" for line in expected])
+
+    def test_no_such_step(self):
+        self.check("sumbit 0 5", f"no step is called 'sumbit'; {STEPS_WANTED}")
+        self.check("Begin 0", f"no step is called 'Begin'; {STEPS_WANTED}")
+        self.check("run 0", f"no step is called 'run'; {STEPS_WANTED}")
+
+    def test_count_of_words(self):
+        self.check("opening 3 1 2 4 4", "opening wants 6 words (n, f, slots, phases, room, start), not 5")
+        self.check("submit 0", "submit wants 2 words (controller, tag), not 1")
+        self.check("relay 0 5 6", "relay wants 2 words (controller, tag), not 3")
+        self.check("advance", "advance wants 1 word (controller), not 0")
+        self.check("run on", "run on wants 1 word (controller), not 0")
+        self.check("hear 0 1 proposal", f"{HEAR_WANTED}, not 3")
+        self.check("hear 0 1 state 0", f"{HEAR_WANTED}, not 4")
+        self.check("hear 0 1 vote 0", f"{HEAR_WANTED}, not 4")
+        self.check("hear 0 1 vote 0 1 2", f"{HEAR_WANTED}, not 6")
+
+    def test_numbers(self):
+        self.check("begin x", "begin wants a number from 0 to 255 as controller, not 'x'")
+        self.check("begin 256", "begin wants a number from 0 to 255 as controller, not '256'")
+        self.check("begin -1", "begin wants a number from 0 to 255 as controller, not '-1'")
+        self.check("begin 1_0", "begin wants a number from 0 to 255 as controller, not '1_0'")
+        self.check("begin \u0663", "begin wants a number from 0 to 255 as controller, not '\u0663'")
+        self.check("crash " + "9" * 5000, f"crash wants a number from 0 to 255 as controller, not '{'9' * 5000}'")
+        self.check("opening 3 1 2 4 65536 0", "opening wants a number from 0 to 65535 as room, not '65536'")
+        self.check("hear 0 1 vote 256 1", "hear wants a number from 0 to 255 as slot, not '256'")
+
+    def test_tags(self):
+        for tag in ("x", "18446744073709551616", "1:", ":1", "1:2:3", "4294967296:0", "0:4294967296", "-5"):
+            self.check(f"submit 0 {tag}", f"submit wants {TAG_WANTED}, not '{tag}'")
+
+    def test_sorts(self):
+        self.check("hear 0 1 votes 0 1", "hear wants a sort (proposal, state, vote), not 'votes'")
+        self.check("hear 0 1 votes 0", "hear wants a sort (proposal, state, vote), not 'votes'")
+        self.check("hear 0 1 256 0 1", "hear wants a sort (proposal, state, vote), not '256'")
+
+    def test_only_a_newline_ends_a_line(self):
+        self.assertEqual(mistakes("begin 0 # a\x0cb\x85c\nend"), [f"text:2: no step is called 'end'; {STEPS_WANTED}"])
+
+    def test_all_mistakes_are_listed(self):
+        text = "opening 3 1 2 4 4 0\nbegin x\n\nsubmit 300 y\nadvance 0\nend\n"
+        given = [(2, "begin"), (4, "submit"), (4, "submit"), (6, "no")]
+        self.assertEqual([line.split()[:2] for line in mistakes(text)], [[f"text:{at}:", word] for at, word in given])
+
+
+class Commands(unittest.TestCase):
+    """The command line: what is written where, and the exit status."""
+
+    def setUp(self):
+        folder = tempfile.TemporaryDirectory()
+        self.addCleanup(folder.cleanup)
+        self.folder = Path(folder.name)
+
+    def file(self, name, data):
+        path = self.folder / name
+        path.write_bytes(data)
+        return path
+
+    def test_worked_session(self):
+        text = ROOT / "examples" / "worked_session.txt"
+        self.assertEqual(command("pack", text), (0, WORKED_BYTES, ""))
+        self.assertEqual(command("pack", "-", given=text.read_bytes()), (0, WORKED_BYTES, ""))
+        status, unpacked_text, _ = command("unpack", self.file("worked.steps", WORKED_BYTES))
+        self.assertEqual((status, packed(unpacked_text.decode())), (0, WORKED_BYTES))
+
+    def test_mistakes_write_nothing(self):
+        path = self.file("session.txt", b"begin 0\nhear 0 1 votes 0 1\n")
+        said = f"{path}:2: hear wants a sort (proposal, state, vote), not 'votes'\n"
+        self.assertEqual(command("pack", path), (1, b"", said))
+        self.assertEqual(command("explain", path, "-"), (1, b"", said))
+        status, written, said = command("pack", "-", given=b"begin")
+        self.assertEqual((status, written), (1, b""))
+        self.assertEqual(said, "standard input:1: begin wants 1 word (controller), not 0\n")
+
+    def test_no_such_file(self):
+        missing = self.folder / "missing.txt"
+        for arguments in (["pack", missing], ["unpack", missing], ["explain", missing, "-"]):
+            self.assertEqual(command(*arguments), (1, b"", f"{missing}: No such file or directory\n"))
+
+    def test_unpack_of_a_broken_file(self):
+        unknown = b"begin 1\n# refused 19, unknown kind (no step has this kind): kind 9 at byte 2\n"
+        self.assertEqual(command("unpack", "-", given=bytes([3, 1, 9, 3, 1])), (1, unknown, ""))
+        cut = b"# refused 20, cut record (the file ends inside a body): submit at byte 0 with 2 of 9 bytes\n"
+        self.assertEqual(command("unpack", "-", given=bytes([1, 0, 5])), (1, cut, ""))
+
+    def test_explain_text(self):
+        text, report = (ROOT / "examples" / f"worked_session.{end}" for end in ("txt", "report"))
+        self.assertEqual(command("explain", text, report), (0, WORKED_EXPLAINED.encode(), ""))
+        self.assertEqual(command("explain", text, "-", given=report.read_bytes())[1].decode(), WORKED_EXPLAINED)
+
+    def test_explain_step_file(self):
+        path = self.file("broken.steps", bytes([3, 1, 9]))
+        report = b"refused 1 21\nrefused 2 19\n"
+        explained = (
+            "refused 1 21       begin 1: out of place (step before an accepted opening, or opening after one)\n"
+            "refused 2 19       kind 9 at byte 2: unknown kind (no step has this kind)\n"
+        )
+        self.assertEqual(command("explain", path, "-", given=report), (0, explained.encode(), ""))
+        self.assertEqual(command("explain", path, "-"), (0, b"", ""))
+
+    def test_a_report_of_another_file(self):
+        path = self.file("short.txt", b"begin 0\n")
+        for line, why in (
+            ("refused 2 21", "the file ends with record 1"),
+            ("refused 0 21", "the file ends with record 1"),
+            ("refused 1 22", "no refusal has this number"),
+        ):
+            self.assertEqual(command("explain", path, "-", given=line.encode()), (1, b"", f"'{line}': {why}\n"))
+        both = "FILE and REPORT cannot both be standard input\n"
+        self.assertEqual(command("explain", "-", "-"), (1, b"", both))
+
+    def test_every_refusal_has_its_words(self):
+        self.assertEqual(sorted(steps.REFUSALS), list(range(1, 22)))
+
+
+class Examples(unittest.TestCase):
+    def test_comments_name_the_refusals_of_the_reports(self):
+        for text in sorted((ROOT / "examples").glob("*.txt")):
+            said = re.findall(r"^[^#\n]+# refused, ([0-9]+)", text.read_text(), re.MULTILINE)
+            lines = text.with_suffix(".report").read_text().splitlines()
+            with self.subTest(text.name):
+                self.assertEqual(said, [line.split()[2] for line in lines if line.startswith("refused")])
+
+
+if __name__ == "__main__":
+    unittest.main()
