@@ -1,0 +1,38 @@
+//! Rushhopper for Rust: a safe wrapper of the proved order log's C interface (`include/rushhopper.h`).
+//!
+//! A [`Rack`] owns the tables of one run and lends them to the library at every call. A refused call changes nothing.
+//!
+//! ```
+//! use rushhopper::{Numbers, Plan, Rack, Refusal, Replica};
+//!
+//! let plan = Plan { numbers: Numbers { n: 1, f: 0, slots: 2, phases: 4, room: 4 }, start: 0 };
+//! let mut rack = Rack::open(plan)?;
+//! rack.submit(Replica(0), 7)?;
+//! rack.begin(Replica(0))?;
+//! assert_eq!(rack.run_on(Replica(0)), Ok(3));
+//! assert_eq!(rack.log(Replica(0)), [7]);
+//! assert_eq!(rack.advance(Replica(0)), Err(Refusal::NotBegun));
+//! # Ok::<(), Refusal>(())
+//! ```
+//!
+//! Replicas, slots and phases are separate types, and one is not accepted for another:
+//!
+//! ```compile_fail,E0308
+//! # fn hear(rack: &mut rushhopper::Rack) {
+//! use rushhopper::{Message, Phase, Replica, Slot};
+//! rack.hear(Replica(0), Replica(1), Message::Vote(Phase(1), Slot(0)));
+//! # }
+//! ```
+//!
+//! Document 01 says "controller" for replica, "spare" for f, "quota" for quorum and "dark" for crashed.
+
+mod numbers;
+mod play;
+mod rack;
+mod raw;
+mod refusal;
+
+pub use numbers::{Numbers, Phase, Plan, Replica, Slot};
+pub use play::{play, play_within};
+pub use rack::{Message, Rack, Record, Round};
+pub use refusal::Refusal;

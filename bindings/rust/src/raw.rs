@@ -1,0 +1,212 @@
+//! The library's functions as `include/rushhopper.h` declares them, and the tables that are lent to them. All that is
+//! unsafe is here.
+
+use crate::numbers::{Numbers, Phase, Plan, Replica, Slot};
+use crate::refusal::{accepted, Refusal};
+
+#[repr(C)]
+struct Opened {
+    refusal: usize,
+    numbers: Numbers,
+}
+
+#[repr(C)]
+struct Ran {
+    refusal: usize,
+    advances: usize,
+}
+
+/// The report itself says what the last two say.
+#[repr(C)]
+struct Played {
+    written: usize,
+    _opened: usize,
+    _numbers: Numbers,
+}
+
+/// A replica's four words of the table of records.
+#[repr(C)]
+#[derive(Clone, Copy, Default)]
+pub struct Words {
+    pub crashed: u16,
+    pub round: u16,
+    pub slot: u16,
+    pub phase: u16,
+}
+
+/// The lent tables, in the layout of docs/TABLES.md.
+#[derive(Clone, Debug, PartialEq, Eq)]
+pub struct Tables {
+    records: Vec<u16>,
+    known: u16,
+    tags: Vec<u64>,
+    holders: Vec<u16>,
+    proposals: Vec<u64>,
+    ballots: Vec<u8>,
+    heard: Vec<u16>,
+    logs: Vec<u64>,
+    strip: Vec<u8>,
+}
+
+/// Declares functions that are lent the tables: the arguments before them, and the kind of strip.
+macro_rules! declare {
+    ($(fn $name:ident($($argument:ident: $kind:ty),*; $strip:ty) -> $answer:ty;)*) => {
+        extern "C" {
+            $(fn $name(
+                $($argument: $kind,)*
+                records: *mut u16, records_length: usize,
+                known: *mut u16,
+                tags: *mut u64, tags_length: usize,
+                holders: *mut u16, holders_length: usize,
+                proposals: *mut u64, proposals_length: usize,
+                ballots: *mut u8, ballots_length: usize,
+                heard: *mut u16, heard_length: usize,
+                logs: *mut u64, logs_length: usize,
+                strip: $strip, strip_length: usize,
+            ) -> $answer;)*
+        }
+    };
+}
+
+declare! {
+    fn rushhopper_open(numbers: Numbers, start: usize; *mut u8) -> Opened;
+    fn rushhopper_submit(numbers: Numbers, who: Replica, tag: u64; *const u8) -> usize;
+    fn rushhopper_relay(numbers: Numbers, who: Replica, tag: u64; *const u8) -> usize;
+    fn rushhopper_begin(numbers: Numbers, who: Replica; *const u8) -> usize;
+    fn rushhopper_hear(
+        numbers: Numbers, receiver: Replica, sender: Replica, sort: usize, slot: Slot, phase: Phase; *const u8
+    ) -> usize;
+    fn rushhopper_advance(numbers: Numbers, who: Replica; *const u8) -> usize;
+    fn rushhopper_run_on(numbers: Numbers, who: Replica; *const u8) -> Ran;
+    fn rushhopper_play(
+        most: Numbers, file: *const u8, file_length: usize, report: *mut u8, report_length: usize; *mut u8
+    ) -> Played;
+}
+
+extern "C" {
+    fn rushhopper_fill_strip(
+        slots: usize,
+        phases: usize,
+        start: usize,
+        strip: *mut u8,
+        strip_length: usize,
+    ) -> usize;
+    fn rushhopper_crash(numbers: Numbers, who: Replica, record: *mut Words) -> usize;
+}
+
+/// Calls a function with its arguments and the tables.
+///
+/// Sound: every table is lent with its own length, no two overlap, and the library keeps none after the call.
+macro_rules! lend {
+    ($tables:expr, $strip:ident, $name:ident($($argument:expr),*)) => {{
+        let tables: &mut Tables = $tables;
+        unsafe {
+            $name(
+                $($argument,)*
+                tables.records.as_mut_ptr(), tables.records.len(),
+                &mut tables.known,
+                tables.tags.as_mut_ptr(), tables.tags.len(),
+                tables.holders.as_mut_ptr(), tables.holders.len(),
+                tables.proposals.as_mut_ptr(), tables.proposals.len(),
+                tables.ballots.as_mut_ptr(), tables.ballots.len(),
+                tables.heard.as_mut_ptr(), tables.heard.len(),
+                tables.logs.as_mut_ptr(), tables.logs.len(),
+                tables.strip.$strip(), tables.strip.len(),
+            )
+        }
+    }};
+}
+
+impl Tables {
+    /// Tables for runs of at most these numbers.
+    pub fn for_runs_of(most: Numbers) -> Tables {
+        let Numbers { n, slots, phases, room, .. } = most.of_tables();
+        Tables {
+            records: vec![0; 4 * n],
+            known: 0,
+            tags: vec![0; room],
+            holders: vec![0; room],
+            proposals: vec![0; slots * n],
+            ballots: vec![0; slots * 2 * phases * n],
+            heard: vec![0; slots * (2 * phases + 1) * n],
+            logs: vec![0; n * slots],
+            strip: vec![0; slots * phases],
+        }
+    }
+
+    /// Answers the numbers of the run.
+    pub fn open(&mut self, plan: Plan) -> Result<Numbers, Refusal> {
+        let opened = lend!(self, as_mut_ptr, rushhopper_open(plan.numbers, plan.start));
+        accepted(opened.refusal).map(|()| opened.numbers)
+    }
+
+    pub fn fill_strip(&mut self, numbers: Numbers, start: usize) -> Result<(), Refusal> {
+        let strip = &mut self.strip;
+        // Sound: the strip is lent with its length.
+        accepted(unsafe {
+            rushhopper_fill_strip(numbers.slots, numbers.phases, start, strip.as_mut_ptr(), strip.len())
+        })
+    }
+
+    pub fn submit(&mut self, numbers: Numbers, who: Replica, tag: u64) -> Result<(), Refusal> {
+        accepted(lend!(self, as_ptr, rushhopper_submit(numbers, who, tag)))
+    }
+
+    pub fn relay(&mut self, numbers: Numbers, who: Replica, tag: u64) -> Result<(), Refusal> {
+        accepted(lend!(self, as_ptr, rushhopper_relay(numbers, who, tag)))
+    }
+
+    pub fn begin(&mut self, numbers: Numbers, who: Replica) -> Result<(), Refusal> {
+        accepted(lend!(self, as_ptr, rushhopper_begin(numbers, who)))
+    }
+
+    pub fn hear(
+        &mut self,
+        numbers: Numbers,
+        receiver: Replica,
+        sender: Replica,
+        (sort, slot, phase): (usize, Slot, Phase),
+    ) -> Result<(), Refusal> {
+        accepted(lend!(self, as_ptr, rushhopper_hear(numbers, receiver, sender, sort, slot, phase)))
+    }
+
+    pub fn advance(&mut self, numbers: Numbers, who: Replica) -> Result<(), Refusal> {
+        accepted(lend!(self, as_ptr, rushhopper_advance(numbers, who)))
+    }
+
+    /// Answers the count of accepted advances.
+    pub fn run_on(&mut self, numbers: Numbers, who: Replica) -> Result<usize, Refusal> {
+        let ran = lend!(self, as_ptr, rushhopper_run_on(numbers, who));
+        accepted(ran.refusal).map(|()| ran.advances)
+    }
+
+    /// Lends the record in the table itself. A replica that has none there is not of the run, and the call looks at no
+    /// record for it; it is lent a blank one.
+    pub fn crash(&mut self, numbers: Numbers, who: Replica) -> Result<(), Refusal> {
+        let mut blank = Words::default();
+        let record = match self.records.chunks_exact_mut(4).nth(who.0) {
+            Some(words) => words.as_mut_ptr().cast(),
+            None => &mut blank,
+        };
+        // Sound: `record` points to four words, as `Words` lays them out.
+        accepted(unsafe { rushhopper_crash(numbers, who, record) })
+    }
+
+    /// Answers how many bytes of the report were written.
+    pub fn play(&mut self, most: Numbers, file: &[u8], report: &mut [u8]) -> usize {
+        let (page, page_length) = (report.as_mut_ptr(), report.len());
+        // Sound: file and report are lent with their lengths, too.
+        lend!(self, as_mut_ptr, rushhopper_play(most, file.as_ptr(), file.len(), page, page_length)).written
+    }
+
+    /// The record of a replica, if the table has it.
+    pub fn words(&self, replica: Replica) -> Option<Words> {
+        let words = self.records.chunks_exact(4).nth(replica.0)?;
+        Some(Words { crashed: words[0], round: words[1], slot: words[2], phase: words[3] })
+    }
+
+    /// The row of a replica's log, closed slots and others; for a replica of a run of these numbers.
+    pub fn log(&self, numbers: Numbers, replica: Replica) -> &[u64] {
+        &self.logs[replica.0 * numbers.slots..][..numbers.slots]
+    }
+}

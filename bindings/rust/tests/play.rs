@@ -1,0 +1,75 @@
+//! Step files and their reports.
+
+use rushhopper::{play, play_within, Numbers};
+
+/// Document 01's input.
+const WORKED: [&[u8]; 8] = [
+    &[0, 3, 1, 2, 4, 4, 0, 0, 0],
+    &[1, 0, 5, 0, 0, 0, 0, 0, 0, 0, 2, 1, 5, 0, 0, 0, 0, 0, 0, 0, 1, 2, 9, 0, 0, 0, 0, 0, 0, 0],
+    &[3, 0, 3, 1, 3, 2],
+    &[4, 0, 1, 1, 0, 0, 5, 0, 4, 1, 0, 1, 0, 0, 5, 1],
+    &[4, 0, 1, 2, 0, 1, 5, 0, 4, 1, 0, 2, 0, 1, 5, 1],
+    &[4, 0, 1, 3, 0, 1, 5, 0, 5, 0],
+    &[4, 2, 0, 3, 0, 1, 5, 2],
+    &[6, 1, 4, 0, 1, 3, 0, 1],
+];
+
+const WORKED_REPORT: &str = "\
+controllers 3 spare 1
+refused 18 13
+refused 20 14
+refused 22 18
+bench 0 lit 1 5
+bench 1 dark 0
+bench 2 lit 0
+";
+
+#[test]
+fn worked_session() {
+    assert_eq!(play(&WORKED.concat()), WORKED_REPORT);
+    assert_eq!(play_within(Numbers::REHEARSAL, &WORKED.concat()), WORKED_REPORT);
+}
+
+#[test]
+fn nothing_and_what_is_no_record() {
+    assert_eq!(play(&[]), "");
+    assert_eq!(play(&[9]), "refused 1 19\n");
+    assert_eq!(play(&[3, 0, 1, 0]), "refused 1 21\nrefused 2 20\n");
+}
+
+/// 17 slots of one phase would fit the tables of the rehearsal program, but it has 16.
+#[test]
+fn larger_openings() {
+    let opening = [0, 1, 0, 17, 1, 4, 0, 0, 0];
+    assert_eq!(play_within(Numbers::REHEARSAL, &opening), "refused 1 2\n");
+    assert_eq!(play(&opening), "controllers 1 spare 0\nbench 0 lit 0\n");
+    let beyond = Numbers { n: usize::MAX, f: 0, slots: usize::MAX, phases: usize::MAX, room: usize::MAX };
+    assert_eq!(play_within(beyond, &opening), play(&opening));
+}
+
+/// The shortest records, all refused: the most lines that a file can have.
+#[test]
+fn no_report_of_many_lines_is_cut() {
+    let expected: String = (1..=100_000).map(|record| format!("refused {record} 21\n")).collect();
+    assert_eq!(play(&[3, 0].repeat(100_000)), expected);
+}
+
+#[test]
+fn no_report_of_a_short_file_is_cut() {
+    let benches: String = (0..15).map(|replica| format!("bench {replica} lit 0\n")).collect();
+    assert_eq!(play(&[0, 15, 7, 64, 32, 0, 1, 0, 0]), format!("controllers 15 spare 7\n{benches}"));
+}
+
+/// The longest line: 64 slots with tags of 20 digits.
+#[test]
+fn no_report_of_long_lines_is_cut() {
+    let mut file = vec![0, 1, 0, 64, 1, 64, 0, 0, 0];
+    let mut expected = "controllers 1 spare 0\nbench 0 lit 64".to_string();
+    for tag in u64::MAX - 63..=u64::MAX {
+        file.extend([1, 0]);
+        file.extend(tag.to_le_bytes());
+        file.extend([3, 0, 7, 0]);
+        expected += &format!(" {tag}");
+    }
+    assert_eq!(play(&file), expected + "\n");
+}

@@ -1,0 +1,141 @@
+//! Runs through the calls of a rack.
+
+use rushhopper::{Message, Numbers, Phase, Plan, Rack, Record, Refusal, Replica, Round, Slot};
+
+const FIRST: Slot = Slot(0);
+
+fn plan(n: usize, f: usize, slots: usize) -> Plan {
+    Plan { numbers: Numbers { n, f, slots, phases: 4, room: 4 }, start: 0 }
+}
+
+fn state(phase: usize) -> Message {
+    Message::State(FIRST, Phase(phase))
+}
+
+fn vote(phase: usize) -> Message {
+    Message::Vote(FIRST, Phase(phase))
+}
+
+/// Each receiver hears one sender, and then each receiver advances.
+fn round(rack: &mut Rack, message: Message, hearings: &[(usize, usize)]) {
+    for &(receiver, sender) in hearings {
+        assert_eq!(rack.hear(Replica(receiver), Replica(sender), message), Ok(()));
+    }
+    for &(receiver, _) in hearings {
+        assert_eq!(rack.advance(Replica(receiver)), Ok(()));
+    }
+}
+
+/// Three replicas in the exchange of slot 0: 0 and 1 have proposed 5, and 2 has proposed 9.
+fn proposed() -> Rack {
+    let mut rack = Rack::open(plan(3, 1, 2)).expect("a plan within the limits");
+    assert_eq!(rack.submit(Replica(0), 5), Ok(()));
+    assert_eq!(rack.relay(Replica(1), 5), Ok(()));
+    assert_eq!(rack.submit(Replica(2), 9), Ok(()));
+    for who in rack.replicas() {
+        assert_eq!(rack.begin(who), Ok(()));
+    }
+    rack
+}
+
+#[test]
+fn openings() {
+    assert_eq!(Rack::open(plan(4, 2, 1)), Err(Refusal::BadPlan));
+    assert_eq!(Rack::open(plan(5, 2, 65)), Err(Refusal::BadPlan));
+    assert_eq!(Rack::open(plan(usize::MAX, usize::MAX, usize::MAX)), Err(Refusal::BadPlan));
+    assert_eq!(Rack::open(Plan { start: 511, ..plan(5, 2, 64) }), Err(Refusal::BadPlan));
+    assert_eq!(Rack::open(Plan { numbers: Numbers::default(), start: 0 }), Err(Refusal::BadPlan));
+    let largest = Rack::open(Plan { numbers: Numbers::LARGEST, start: 510 });
+    assert_eq!(largest.map(|rack| rack.numbers()), Ok(Numbers::LARGEST));
+}
+
+#[test]
+fn a_phase_limit_of_0_stands_for_8() {
+    let numbers = Numbers { phases: 0, ..plan(5, 2, 64).numbers };
+    let rack = Rack::open(Plan { numbers, start: 0 }).expect("a plan within the limits");
+    assert_eq!(rack.numbers(), Numbers { phases: 8, ..numbers });
+}
+
+#[test]
+fn refused_steps_change_nothing() {
+    let mut rack = proposed();
+    let before = rack.clone();
+    let (who, far) = (Replica(0), Replica(usize::MAX));
+    assert_eq!(rack.submit(Replica(3), 5), Err(Refusal::NoSuchReplica));
+    assert_eq!(rack.submit(who, 0), Err(Refusal::BlankTag));
+    assert_eq!(rack.submit(who, 5), Err(Refusal::AlreadyHeld));
+    assert_eq!(rack.relay(who, 6), Err(Refusal::UnknownTag));
+    assert_eq!(rack.begin(who), Err(Refusal::Busy));
+    assert_eq!(rack.advance(who), Err(Refusal::TooFewHeard));
+    assert_eq!(rack.run_on(who), Err(Refusal::TooFewHeard));
+    assert_eq!(rack.crash(far), Err(Refusal::NoSuchReplica));
+    assert_eq!(rack.fill_strip(511), Err(Refusal::BadPlan));
+    assert_eq!(rack.hear(who, far, vote(1)), Err(Refusal::NoSuchReplica));
+    assert_eq!(rack.hear(who, Replica(1), vote(5)), Err(Refusal::NoSuchMessage));
+    assert_eq!(rack.hear(who, Replica(1), Message::Proposal(Slot(2))), Err(Refusal::NoSuchMessage));
+    assert_eq!(rack.hear(who, who, Message::Proposal(FIRST)), Err(Refusal::AlreadyHeard));
+    assert_eq!(rack.hear(who, who, state(1)), Err(Refusal::NotSent));
+    assert_eq!(rack, before);
+}
+
+#[test]
+fn a_replica_that_the_rack_does_not_have() {
+    let rack = proposed();
+    for replica in [Replica(3), Replica(usize::MAX)] {
+        assert_eq!(rack.record(replica), None);
+        assert!(rack.log(replica).is_empty());
+    }
+}
+
+#[test]
+fn a_crash_marks_its_own_record() {
+    let mut rack = proposed();
+    let others = [rack.record(Replica(0)), rack.record(Replica(2))];
+    assert_eq!(rack.crash(Replica(1)), Ok(()));
+    let crashed = Record { crashed: true, round: Round::Exchange, slot: FIRST };
+    assert_eq!(rack.record(Replica(1)), Some(crashed));
+    assert_eq!([rack.record(Replica(0)), rack.record(Replica(2))], others);
+    assert_eq!(rack.crash(Replica(1)), Err(Refusal::Crashed));
+    assert_eq!(rack.advance(Replica(1)), Err(Refusal::Crashed));
+    assert_eq!(rack.hear(Replica(0), Replica(1), Message::Proposal(FIRST)), Ok(()));
+}
+
+#[test]
+fn the_find_round_waits_for_a_majority() {
+    let mut rack = proposed();
+    round(&mut rack, Message::Proposal(FIRST), &[(0, 1), (1, 0), (2, 0)]);
+    assert_eq!(rack.hear(Replica(2), Replica(1), state(1)), Ok(()));
+    round(&mut rack, state(1), &[(0, 1), (1, 0), (2, 0)]);
+    round(&mut rack, vote(1), &[(0, 1), (1, 0), (2, 0)]);
+    assert_eq!(rack.log(Replica(0)), [5]);
+    let finding = Record { crashed: false, round: Round::Find, slot: FIRST };
+    assert_eq!((rack.record(Replica(2)), rack.log(Replica(2))), (Some(finding), &[][..]));
+    assert_eq!(rack.advance(Replica(2)), Err(Refusal::TooFewHeard));
+    assert_eq!(rack.hear(Replica(2), Replica(1), Message::Proposal(FIRST)), Ok(()));
+    assert_eq!(rack.run_on(Replica(2)), Ok(1));
+    assert_eq!(rack.log(Replica(2)), [5]);
+    assert_eq!(rack.begin(Replica(0)), Err(Refusal::NothingPending));
+    assert_eq!(rack.begin(Replica(2)), Ok(()));
+}
+
+/// All vote `?` in phase 1; entry 0 of the coin table is 1, entry 9 is 0.
+#[test]
+fn the_strip_decides_a_quarrel() {
+    for (start, logged) in [(0, 5), (9, 0)] {
+        let mut rack = proposed();
+        assert_eq!(rack.fill_strip(start), Ok(()));
+        round(&mut rack, Message::Proposal(FIRST), &[(0, 1), (1, 0), (2, 0)]);
+        round(&mut rack, state(1), &[(0, 2), (1, 2), (2, 0)]);
+        let voting = Record { crashed: false, round: Round::Vote(Phase(1)), slot: FIRST };
+        assert_eq!(rack.record(Replica(0)), Some(voting));
+        round(&mut rack, vote(1), &[(0, 1), (1, 2), (2, 0)]);
+        let second = Record { round: Round::State(Phase(2)), ..voting };
+        assert_eq!(rack.record(Replica(0)), Some(second));
+        round(&mut rack, state(2), &[(0, 1), (1, 2), (2, 0)]);
+        assert_eq!(rack.hear(Replica(2), Replica(1), Message::Proposal(FIRST)), Ok(()));
+        round(&mut rack, vote(2), &[(0, 1), (1, 2), (2, 0)]);
+        for who in rack.replicas() {
+            assert_eq!(rack.log(who), [logged]);
+        }
+    }
+}

@@ -1,0 +1,328 @@
+#!/usr/bin/env python3
+"""Step files by hand: from readable text and back, and reports explained.
+
+    python3 tools/steps.py pack FILE.txt > FILE.steps     text to step file
+    python3 tools/steps.py unpack FILE.steps              step file to text
+    python3 tools/steps.py explain FILE REPORT            report, with the refused steps beside it
+
+`-` stands for standard input. FILE of explain is a step file if its name ends in .steps, else text.
+
+The text has one step to a line; blank lines and what follows a # are passed over:
+
+    opening 3 1 2 4 4 0        # n f slots phases room start
+    submit 0 5                 # controller tag
+    relay 1 5
+    begin 0
+    hear 0 1 proposal 0        # receiver sender sort slot
+    hear 0 1 state 0 1         # the same and the phase
+    hear 0 1 vote 0 1
+    advance 0
+    crash 1
+    run on 0
+
+A tag is a decimal number, or TIME:NUMBER for TIME times 2^32 plus NUMBER. Any number that fits its bytes can be written,
+also one that the library refuses; a sort that has no name is written as its number. A phase that is left out is 0, but a
+state or vote wants one.
+"""
+
+import argparse
+import re
+import sys
+from typing import NamedTuple
+
+
+class Field(NamedTuple):
+    name: str
+    size: int
+
+
+class Kind(NamedTuple):
+    word: str
+    fields: tuple[Field, ...]
+
+
+class Step(NamedTuple):
+    kind: Kind
+    numbers: list[int]
+
+
+class Broken(NamedTuple):
+    """What stands at the end of a step file and is no record: reading stops there with the refusal."""
+
+    text: str
+    refusal: int
+
+
+class Mistakes(Exception):
+    """All that is wrong with an input, one line each."""
+
+    def __init__(self, lines):
+        super().__init__("\n".join(lines))
+        self.lines = lines
+
+
+def declare(word, **sizes):
+    return Kind(word, tuple(Field(name, size) for name, size in sizes.items()))
+
+
+# by their numbers; a field's size is in bytes
+KINDS = (
+    declare("opening", n=1, f=1, slots=1, phases=1, room=2, start=2),
+    declare("submit", controller=1, tag=8),
+    declare("relay", controller=1, tag=8),
+    declare("begin", controller=1),
+    declare("hear", receiver=1, sender=1, sort=1, slot=1, phase=1),
+    declare("advance", controller=1),
+    declare("crash", controller=1),
+    declare("run on", controller=1),
+)
+SORTS = {"proposal": 1, "state": 2, "vote": 3}
+SORT_WORDS = {number: word for word, number in SORTS.items()}
+HALF_TAG = 2**32
+
+UNKNOWN_KIND = 19
+CUT_RECORD = 20
+REFUSALS = {
+    1: ("bad plan", "a number beyond the limits"),
+    2: ("short table", "a table shorter than the run needs"),
+    3: ("spoiled record", "run numbers beyond limits, more known tags than room, or a record that no run makes"),
+    4: ("no such bench", "acting controller or sender is n or more"),
+    5: ("dark", "the acting controller is dark"),
+    6: ("blank tag", "tag 0"),
+    7: ("held", "the controller holds this tag"),
+    8: ("tag room full", "submit of an unknown tag, no room"),
+    9: ("unknown tag", "relay of a tag never submitted"),
+    10: ("busy", "begin in a round"),
+    11: ("log full", "begin, all slots closed"),
+    12: ("nothing pending", "begin, no pending tag"),
+    13: ("idle", "advance or run on while idle"),
+    14: ("too few heard", "below quota; in find, no majority"),
+    15: ("phases used up", "vote round of the last phase would go on to another"),
+    16: ("no such message", "sort, slot or phase out of range"),
+    17: ("unsent", "the sender hasn't sent it"),
+    18: ("heard", "the receiver has heard it"),
+    UNKNOWN_KIND: ("unknown kind", "no step has this kind"),
+    CUT_RECORD: ("cut record", "the file ends inside a body"),
+    21: ("out of place", "step before an accepted opening, or opening after one"),
+}
+
+
+def decimal(word, limit):
+    """The number that a word says, if it is a decimal number below the limit."""
+    if not re.fullmatch("[0-9]+", word):
+        return None
+    digits = word.lstrip("0")
+    # a word may be longer than what Python turns into a number
+    if len(digits) > len(str(limit)):
+        return None
+    number = int(digits or "0")
+    return number if number < limit else None
+
+
+def read_tag(word):
+    halves = [decimal(half, HALF_TAG) for half in word.split(":")]
+    if len(halves) == 2 and None not in halves:
+        return halves[0] * HALF_TAG + halves[1]
+    return decimal(word, HALF_TAG**2)
+
+
+def read_field(field, word):
+    if field.name == "tag":
+        return read_tag(word)
+    if field.name == "sort" and word in SORTS:
+        return SORTS[word]
+    return decimal(word, 256**field.size)
+
+
+def wanted(field):
+    """What a field takes, in words."""
+    most = 256**field.size - 1
+    if field.name == "tag":
+        return f"a tag (a number from 0 to {most}, or time:number with each from 0 to {HALF_TAG - 1})"
+    if field.name == "sort":
+        return "a sort (proposal, state, vote)"
+    return f"a number from 0 to {most} as {field.name}"
+
+
+def wanted_words(kind):
+    names = ", ".join(field.name for field in kind.fields)
+    count = len(kind.fields)
+    note = "; no phase for a proposal" if kind.word == "hear" else ""
+    return f"{count} {'word' if count == 1 else 'words'} ({names}{note})"
+
+
+def read_words(kind, words):
+    """The numbers of a step from the words behind its name."""
+    if kind.word == "hear" and len(words) == 4 and words[2] not in ("state", "vote"):
+        words = [*words, "0"]
+    mistakes = []
+    if len(words) != len(kind.fields):
+        mistakes.append(f"{kind.word} wants {wanted_words(kind)}, not {len(words)}")
+    numbers = [read_field(field, word) for field, word in zip(kind.fields, words)]
+    for field, word, number in zip(kind.fields, words, numbers):
+        if number is None:
+            mistakes.append(f"{kind.word} wants {wanted(field)}, not '{word}'")
+    if mistakes:
+        raise Mistakes(mistakes)
+    return numbers
+
+
+def read_line(words):
+    for kind in KINDS:
+        name = kind.word.split()
+        if words[: len(name)] == name:
+            return Step(kind, read_words(kind, words[len(name) :]))
+    *others, last = [kind.word for kind in KINDS]
+    raise Mistakes([f"no step is called '{words[0]}'; expected {', '.join(others)} or {last}"])
+
+
+def read_text(name, text):
+    """The steps of a text by their line numbers; `name` is the file's, for what is said of mistakes."""
+    steps = {}
+    mistakes = []
+    for line, content in enumerate(text.split("\n"), 1):
+        words = content.partition("#")[0].split()
+        if not words:
+            continue
+        try:
+            steps[line] = read_line(words)
+        except Mistakes as found:
+            mistakes += [f"{name}:{line}: {mistake}" for mistake in found.lines]
+    if mistakes:
+        raise Mistakes(mistakes)
+    return steps
+
+
+def field_text(field, number):
+    if field.name == "tag" and number >= HALF_TAG:
+        return "{}:{}".format(*divmod(number, HALF_TAG))
+    if field.name == "sort":
+        return SORT_WORDS.get(number, str(number))
+    return str(number)
+
+
+def step_text(step):
+    words = [field_text(field, number) for field, number in zip(step.kind.fields, step.numbers)]
+    if words[2:3] == ["proposal"] and words[-1] == "0":
+        words.pop()
+    return " ".join([step.kind.word, *words])
+
+
+def step_bytes(step):
+    body = [number.to_bytes(field.size, "little") for field, number in zip(step.kind.fields, step.numbers)]
+    return bytes([KINDS.index(step.kind)]) + b"".join(body)
+
+
+def read_body(kind, body):
+    numbers = []
+    for field in kind.fields:
+        numbers.append(int.from_bytes(body[: field.size], "little"))
+        body = body[field.size :]
+    return Step(kind, numbers)
+
+
+def read_steps(data):
+    """The steps of a step file, and what is broken at its end, if anything is."""
+    steps = []
+    place = 0
+    while place < len(data):
+        if data[place] >= len(KINDS):
+            return steps, Broken(f"kind {data[place]} at byte {place}", UNKNOWN_KIND)
+        kind = KINDS[data[place]]
+        length = sum(field.size for field in kind.fields)
+        body = data[place + 1 : place + 1 + length]
+        if len(body) < length:
+            return steps, Broken(f"{kind.word} at byte {place} with {len(body)} of {length} bytes", CUT_RECORD)
+        steps.append(read_body(kind, body))
+        place += 1 + length
+    return steps, None
+
+
+def refusal_text(number):
+    word, meaning = REFUSALS[number]
+    return f"{word} ({meaning})"
+
+
+def explain_line(line, records):
+    """A line of a report; behind a refusal the step that was refused, and why."""
+    refused = re.fullmatch("refused ([0-9]{1,9}) ([0-9]{1,9})", line)
+    if not refused:
+        return line
+    record, refusal = int(refused[1]), int(refused[2])
+    if not 1 <= record <= len(records):
+        raise Mistakes([f"'{line}': the file ends with record {len(records)}"])
+    if refusal not in REFUSALS:
+        raise Mistakes([f"'{line}': no refusal has this number"])
+    return f"{line:<18} {records[record - 1]}: {refusal_text(refusal)}"
+
+
+def read_input(name):
+    if name == "-":
+        return sys.stdin.buffer.read()
+    try:
+        with open(name, "rb") as file:
+            return file.read()
+    except OSError as error:
+        raise Mistakes([f"{name}: {error.strerror}"]) from error
+
+
+def read_readable(name):
+    """Comments may be in any encoding; a byte-order mark at the start is passed over."""
+    shown = "standard input" if name == "-" else name
+    return read_text(shown, read_input(name).decode("utf-8-sig", "replace"))
+
+
+def read_records(name):
+    """The records of a file as explain shows them."""
+    if not name.endswith(".steps"):
+        return [f"line {line}: {step_text(step)}" for line, step in read_readable(name).items()]
+    steps, broken = read_steps(read_input(name))
+    return [step_text(step) for step in steps] + ([broken.text] if broken else [])
+
+
+def pack(arguments):
+    steps = read_readable(arguments.file).values()
+    sys.stdout.buffer.write(b"".join(map(step_bytes, steps)))
+
+
+def unpack(arguments):
+    steps, broken = read_steps(read_input(arguments.file))
+    for step in steps:
+        print(step_text(step))
+    if broken:
+        print(f"# refused {broken.refusal}, {refusal_text(broken.refusal)}: {broken.text}")
+        raise SystemExit(1)
+
+
+def explain(arguments):
+    if arguments.file == arguments.report == "-":
+        raise Mistakes(["FILE and REPORT cannot both be standard input"])
+    records = read_records(arguments.file)
+    report = read_input(arguments.report).decode("ascii", "backslashreplace")
+    explained = [explain_line(line, records) for line in report.splitlines()]
+    for line in explained:
+        print(line)
+
+
+def read_arguments():
+    parser = argparse.ArgumentParser(description="Step files from readable text and back, and reports explained.")
+    commands = parser.add_subparsers(required=True, metavar="COMMAND")
+    for run, about in ((pack, "text to step file"), (unpack, "step file to text"), (explain, "a report explained")):
+        command = commands.add_parser(run.__name__, help=about)
+        command.add_argument("file", metavar="FILE", help="- is standard input")
+        if run is explain:
+            command.add_argument("report", metavar="REPORT", help="what the rehearsal program wrote of FILE")
+        command.set_defaults(run=run)
+    return parser.parse_args()
+
+
+def main():
+    arguments = read_arguments()
+    try:
+        arguments.run(arguments)
+    except Mistakes as found:
+        sys.exit(str(found))
+
+
+if __name__ == "__main__":
+    main()
