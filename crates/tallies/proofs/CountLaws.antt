@@ -5,7 +5,10 @@ use native.Mathlib.Omega.{arith}
 use mathlib.Core.Bool.{Bool, true, false}
 use lib.Dec.{leb}
 use mathlib.Core.List.{List}
-use mathlib.Core.Path.{_≡_, refl, _∙_, ap}
+use mathlib.Core.Path.{_≡_, refl, sym, _∙_, ap}
+use borrow.Author.Tests.{le-leb, lt-leb}
+use Rattle.model.proofs.Branches.{if-true, if-false}
+use Rattle.model.proofs.Cases.{if-ind}
 use Rattle.model.specs.declared.Numbers.{Numbers}
 use Rattle.model.specs.declared.Sort.{Sort}
 use Rattle.model.specs.declared.Sort.the-variants.{Proposals}
@@ -56,10 +59,20 @@ module _ (N : Numbers) (k : Replica) where
   unfolding majority-among
   majority-none = refl
 
-  pub majority-more : (i : ℕ) {w : Word} {x total best r : ℕ} → best ≡ majority-among N k i → w ≡ seen k Proposals 0 i → x ≡ tag-of w
-      → total ≡ tally N k Proposals 0 (Tag x) → r ≡ if (leb (majority N) total) x best → r ≡ majority-among N k (i + 1)
+  pub majority-more : (i : ℕ) {w : Word} {x best r : ℕ} → best ≡ majority-among N k i → w ≡ seen k Proposals 0 i → x ≡ tag-of w
+      → r ≡ if (leb (majority N) (tally N k Proposals 0 (Tag x))) x best → r ≡ majority-among N k (i + 1)
   unfolding majority-among
-  majority-more i b a t c q =
+  majority-more i b a t q =
       let y = t ∙ ap tag-of a in
-      let z = c ∙ ap (λ (x : ℕ). tally N k Proposals 0 (Tag x)) y in
-      rw (add-one i) (q ∙ (λ j. if (leb (majority N) (z j)) (y j) (b j)))
+      rw (add-one i) (q ∙ (λ j. if (leb (majority N) (tally N k Proposals 0 (Tag (y j)))) (y j) (b j)))
+
+  -- a tag and the best so far: the same, or counted
+  module _ (x best : ℕ) where
+    pub same-leader : x ≡ best → best ≡ if (leb (majority N) (tally N k Proposals 0 (Tag x))) x best
+    same-leader e = sym (if-ind (λ (r : ℕ). r ≡ best) _ (λ _. e) (λ _. refl))
+
+    pub new-leader : {total : ℕ} → total ≡ tally N k Proposals 0 (Tag x) → majority N ≤ total → x ≡ if (leb (majority N) (tally N k Proposals 0 (Tag x))) x best
+    new-leader c h = sym (if-true _ _ (ap (leb (majority N)) (sym c) ∙ le-leb _ _ h))
+
+    pub old-leader : {total : ℕ} → total ≡ tally N k Proposals 0 (Tag x) → total < majority N → best ≡ if (leb (majority N) (tally N k Proposals 0 (Tag x))) x best
+    old-leader c h = sym (if-false _ _ (ap (leb (majority N)) (sym c) ∙ lt-leb _ _ h))

@@ -8,10 +8,11 @@ use rules::messages::says;
 use rules::messages::tag_of;
 ghost use mathlib.Core.Path.{_≡_};
 ghost use mathlib.Core.Bool.{Bool};
+ghost use lib.Dec.{leb};
 ghost use Rattle.model.specs.declared.Sort.the-variants.{Proposals};
 ghost use Rattle.model.specs.declared.Word.the-variants.{Tag, Say};
 ghost use Rattle.model.specs.Tests.{if, bit};
-ghost use Rattle.model.specs.Rules.{heard-count, tally, majority-tag};
+ghost use Rattle.model.specs.Rules.{majority, heard-count, tally, majority-tag};
 ghost use Rattle.tallies.specs.Seat.{Seat, SeatIn, ears};
 
 fn one(b: bool) -> usize
@@ -127,11 +128,26 @@ fn tag_tally(
     total
 }
 
-fn better(enough: bool, x: u64, best: u64) -> u64
-    ensures { λ r. ⌜ r ≡ if enough x best ⌝ }
+// The tag if it has a majority, else the best so far, which is counted no second time.
+fn leader(
+    numbers: Numbers,
+    who: usize,
+    slot: usize,
+    tag: u64,
+    best: u64,
+    proposals: &[u64],
+    ballots: &[u8],
+    heard: &[u16],
+) -> u64
+    requires { ⌜ SeatIn numbers who Proposals slot 0 (now proposals) (now ballots) (now heard) ⌝ }
+    ensures { λ r. ⌜ r ≡ if (leb (majority numbers) (tally numbers (ears numbers who slot 0 (now (proposals .entry)) (now (ballots .entry)) (now (heard .entry))) Proposals 0 (Tag tag))) tag best ⌝ }
 {
-    if enough {
-        return x;
+    if tag == best {
+        return best;
+    }
+    let votes = tag_tally(numbers, who, slot, tag, proposals, ballots, heard);
+    if numbers.n / 2 + 1 <= votes {
+        return tag;
     }
     best
 }
@@ -163,9 +179,8 @@ pub fn majority_tag(
             ballots,
             heard,
         );
-        let x = tag_of(word);
-        let votes = tag_tally(numbers, who, slot, x, proposals, ballots, heard);
-        best = better(n / 2 + 1 <= votes, x, best);
+        let tag = tag_of(word);
+        best = leader(numbers, who, slot, tag, best, proposals, ballots, heard);
         i += 1;
     }
     best

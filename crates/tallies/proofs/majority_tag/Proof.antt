@@ -22,14 +22,8 @@ heard-word-requires c κs = (let h = c .before .before .before .before .before .
 tag-of-requires : tie.Need-tag-of-requires Inv-loop μ-loop
 tag-of-requires c κs = omega arith
 
-tag-tally-requires : tie.Need-tag-tally-requires Inv-loop μ-loop
-tag-tally-requires c κs = c .before .before .before .before .before .before .before .pre
-
-add-better : tie.Need-add-better Inv-loop μ-loop
-add-better c = let b = c .before .before .before .before .before .before .before .before .pre .seat .reach .bounds .few in omega arith
-
-better-requires : tie.Need-better-requires Inv-loop μ-loop
-better-requires c κs = omega arith
+leader-requires : tie.Need-leader-requires Inv-loop μ-loop
+leader-requires c κs = c .before .before .before .before .before .before .before .pre
 
 add-i : tie.Need-add-i Inv-loop μ-loop
 add-i c = omega arith
@@ -38,10 +32,10 @@ loop-less : tie.Need-loop-less Inv-loop μ-loop
 loop-less c = omega arith
 
 loop-again : tie.Need-loop-again Inv-loop μ-loop
-loop-again c = (omega arith, omega arith, majority-more _ _ _ (c .before .before .before .before .before .loop .inv .2) (c .before .before .before .heard-word .ensures) (c .before .before .tag-of .ensures) (c .before .tag-tally .ensures) (c .better .ensures))
+loop-again c = (omega arith, omega arith, majority-more _ _ _ (c .before .before .before .before .loop .inv .2) (c .before .before .heard-word .ensures) (c .before .tag-of .ensures) (c .leader .ensures))
 
 returns : tie.Need-returns Inv-loop μ-loop
-returns c = let e : c .before .loop .i ≡ c .before .before .before .before .before .args .numbers .n = omega arith in c .before .loop .inv .2 ∙ ap (λ (i : ℕ). majority-among (c .before .before .before .before .before .args .numbers) (ears (c .before .before .before .before .before .args .numbers) (c .before .before .before .before .before .args .who) (c .before .before .before .before .before .args .slot) 0 (c .before .before .before .before .before .args .proposals .now) (c .before .before .before .before .before .args .ballots .now) (c .before .before .before .before .before .args .heard .now)) i) e
+returns c = let a = c .before .before .before .before .before .args in let e : c .before .loop .i ≡ a .numbers .n = omega arith in c .before .loop .inv .2 ∙ ap (λ (i : ℕ). majority-among (a .numbers) (ears (a .numbers) (a .who) (a .slot) 0 (a .proposals .now) (a .ballots .now) (a .heard .now)) i) e
 
 pub majority-tag-spec : {M : Type 1} → statement M
 majority-tag-spec =
@@ -52,9 +46,7 @@ majority-tag-spec =
     loop-holds
     heard-word-requires
     tag-of-requires
-    tag-tally-requires
-    add-better
-    better-requires
+    leader-requires
     add-i
     loop-less
     loop-again
