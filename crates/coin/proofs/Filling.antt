@@ -1,12 +1,20 @@
--- A strip of which one more cell is filled.
+-- An entry read from the whole table, and a strip of which one more cell is filled.
 use Prim.Native.Nat.{ℕ, _+_, _/_, _%_, _<_}
 use mathlib.Core.Path.{_≡_, refl}
-use mathlib.Core.List.{List, _++_, append-assoc}
+use mathlib.Core.List.{List, _++_, append-assoc, reverse}
+use native.Mathlib.Nat.{mod-lt}
 use native.Mathlib.Numerals.{add-one}
-use lib.ListN.{length, set, drop}
+use native.Mathlib.Omega.{arith}
+use lib.ListN.{length, getD, set, drop}
 use lib.Seq.{drop-cons, set-at}
-use Rattle.model.specs.Coins.{coin-entry, entry-place, filled-cells}
-use Rattle.coin.specs.Law.{length-cells}
+use Rattle.model.specs.Coins.{entries, coin-entries, coin-entry, entry-place, filled-cells}
+use Rattle.coin.specs.Law.{in-order, length-cells}
+
+pub in-table : (start s p : ℕ) {k : ℕ} → k ≡ entry-place start s p → k < coin-entries
+in-table start s p at-place = rw at-place (mod-lt _ (omega arith))
+
+pub read-entry : (k : ℕ) {coins : List ℕ} → coins ≡ reverse (entries coin-entries) → k < coin-entries → getD coins k 0 ≡ coin-entry k
+read-entry k whole h = rw whole (in-order coin-entries k h)
 
 module _ (phases start : ℕ) (strip : List ℕ) where
   pub none-filled : strip ≡ filled-cells phases start 0 ++ drop 0 strip

@@ -6,7 +6,7 @@ use model::Answer;
 use model::PhaseIndex;
 use model::Refusal;
 use model::SlotIndex;
-pub use table::coin_entry;
+use table::coin_table;
 ghost use mathlib.Core.Path.{_≡_};
 ghost use Prim.Native.Nat.{_-_, _*_, _<_, _≤_};
 ghost use lib.Dec.{ltb};
@@ -59,11 +59,12 @@ pub fn fill_cells(slots: usize, phases: usize, start: usize, strip: &mut [u8])
     requires { ⌜ (1 ≤ phases) × (phases ≤ 32) × (slots ≤ 64) × (slots * phases ≤ length (now strip)) × (start ≤ 510) ⌝ }
     ensures { λ _. ⌜ now (strip .exit) ≡ filled slots phases start (now (strip .entry)) ⌝ }
 {
+    let coins = coin_table();
     let cells = slots * phases;
     let mut j = 0;
     while j < cells {
         let k = entry_place(start, j / phases, j % phases + 1);
-        strip[j] = coin_entry(k);
+        strip[j] = coins[k];
         j += 1;
     }
 }
