@@ -22,7 +22,8 @@ use Rattle.advancing.specs.declared.Progress.{Progress}
 use Rattle.advancing.specs.declared.Progress.the-variants.{Turned, Closed, Further}
 use Rattle.advancing.specs.Progress.{progress}
 use Rattle.rounds.specs.Runs.{Ran as Ran′, ran, runs}
-use Rattle.rounds.proofs.RunLaws.{on-turned}
+use Rattle.rounds.proofs.RunLaws.{on-turned, on-closed, on-further}
+use Rattle.running.proofs.EnoughLaws.{one-more, Started, started}
 
 refused-is : (e : Effect) {why : Refusal} → progress e ≡ Turned why → e ≡ Refuse why
 refused-is (Refuse why) q = cc
@@ -44,22 +45,35 @@ goes-on-is Seek q = (refl, λ a. refl)
 goes-on-is (Receive so s p d w) q = (refl, λ a. refl)
 goes-on-is Halt q = (refl, λ a. refl)
 
-module _ (N : Numbers) (strip : List ℕ) (c : ReplicaId) (t : Tables) {e : Effect} {went : Progress} (judged : e ≡ judge N strip (Advance c) t) (told-so : went ≡ progress e) where
-  pub call-refused : {why : Refusal} → went ≡ Turned why → outcome (Refused why) t ≡ ran-on N strip c t
-  unfolding ran-on write
+module _ (N : Numbers) (strip : List ℕ) (c : ReplicaId) (t : Tables) {went : Progress} {t′ : Tables}
+    (seen : went ≡ progress (judge N strip (Advance c) t)) (moved : t′ ≡ performed N strip (Advance c) t) where
+  five : most-advances N ≡ suc (2 * N .phases + 4)
+  five = omega arith
+
+  pub call-refused : {why : Refusal} → went ≡ Turned why → outcome (Refused why) t′ ≡ ran-on N strip c t
+  unfolding ran-on
   call-refused {why} h =
-      let r = sym judged ∙ refused-is e (sym told-so ∙ h) in
-      let same : t ≡ performed N strip (Advance c) t = ap (λ (e : Effect). write N (c .0) e t) (sym r) in
-      let five : 2 * N .phases + 5 ≡ suc (2 * N .phases + 4) = omega arith in
-      let q = on-turned N strip c t {went = Turned why} (sym (ap progress r)) same (2 * N .phases + 4) five refl in
+      let r = refused-is (judge N strip (Advance c) t) (sym seen ∙ h) in
+      let q = on-turned N strip c t seen moved (2 * N .phases + 4) five h in
       ap₂ (λ (a : Answer) (t : Tables). outcome a t) (sym (ap (λ (e : Effect). told (Ran (count-on N strip c (most-advances N) t)) e) r)) (ap (λ (x : Ran′). x .tables) q)
 
-  pub call-ran : {m : ℕ} {t′ : Tables} → (went ≡ Closed) ⊎ (went ≡ Further) → ran m t′ ≡ runs N strip c (most-advances N) t → outcome (Ran m) t′ ≡ ran-on N strip c t
-  unfolding ran-on
-  call-ran h q =
-      let g = goes-on-is (judge N strip (Advance c) t) (⊎-elim (λ x. inl (sym (told-so ∙ ap progress judged) ∙ x)) (λ x. inr (sym (told-so ∙ ap progress judged) ∙ x)) h) .1 in
-      ap₂ (λ (k : ℕ) (t : Tables). outcome (Ran k) t) (ap (λ (x : Ran′). x .count) q) (ap (λ (x : Ran′). x .tables) q)
-      ∙ ap (λ (a : Answer). outcome a (advances-on N strip c (most-advances N) t)) (sym (g (Ran (count-on N strip c (most-advances N) t))))
+  accepted-is : (went ≡ Closed) ⊎ (went ≡ Further) → (accepted (judge N strip (Advance c) t) ≡ true) × ((good : Answer) → told good (judge N strip (Advance c) t) ≡ good)
+  accepted-is h = goes-on-is (judge N strip (Advance c) t) (⊎-elim (λ x. inl (sym seen ∙ x)) (λ x. inr (sym seen ∙ x)) h)
 
-  pub call-accepted : (went ≡ Closed) ⊎ (went ≡ Further) → accepted (judge N strip (Advance c) t) ≡ true
-  call-accepted h = goes-on-is (judge N strip (Advance c) t) (⊎-elim (λ x. inl (sym (told-so ∙ ap progress judged) ∙ x)) (λ x. inr (sym (told-so ∙ ap progress judged) ∙ x)) h) .0
+  ran-is : {m : ℕ} {u : Tables} → (went ≡ Closed) ⊎ (went ≡ Further) → ran m u ≡ runs N strip c (most-advances N) t → outcome (Ran m) u ≡ ran-on N strip c t
+  unfolding ran-on
+  ran-is h q =
+      ap₂ (λ (k : ℕ) (t : Tables). outcome (Ran k) t) (ap (λ (x : Ran′). x .count) q) (ap (λ (x : Ran′). x .tables) q)
+      ∙ ap (λ (a : Answer). outcome a (advances-on N strip c (most-advances N) t)) (sym (accepted-is h .1 (Ran (count-on N strip c (most-advances N) t))))
+
+  pub call-closed : went ≡ Closed → outcome (Ran 1) t′ ≡ ran-on N strip c t
+  call-closed h = ran-is (inl h) (on-closed N strip c t seen moved (2 * N .phases + 4) five h)
+
+  -- the first advance, and a run on from where it led
+  pub call-further : {m : ℕ} {u : Tables} → went ≡ Further → ran m u ≡ runs N strip c (most-advances N) t′ → outcome (Ran (1 + m)) u ≡ ran-on N strip c t
+  call-further {m} {u} h q =
+      let e : 1 + m ≡ m + 1 = omega arith in
+      ap (λ (k : ℕ). outcome (Ran k) u) e ∙ ran-is (inr h) (on-further N strip c t seen moved (most-advances N) refl h q ∙ one-more N strip c t)
+
+  pub call-started : went ≡ Further → Started N strip c t
+  call-started h = started N strip c t (accepted-is (inr h) .0)

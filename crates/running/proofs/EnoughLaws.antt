@@ -3,12 +3,12 @@ use Prim.Native.Nat.{ℕ, zero, suc, _+_, _-_, _*_, _≤_, _<_}
 use native.Mathlib.Omega.{arith}
 use mathlib.Core.Bool.{Bool, true, false, not, _&&_}
 use mathlib.Core.List.{List}
-use mathlib.Core.Path.{_≡_, refl, sym, _∙_, ap, ap₂, subst}
+use mathlib.Core.Path.{_≡_, refl, sym, _∙_, ap}
 use lib.ListN.{length}
 use Rattle.model.specs.declared.Numbers.{Numbers}
 use Rattle.model.specs.declared.ReplicaId.{ReplicaId}
 use Rattle.model.specs.declared.Round.{Round}
-use Rattle.model.specs.declared.Round.the-variants.{Exchange, State, Vote, Find}
+use Rattle.model.specs.declared.Round.the-variants.{State, Vote, Find}
 use Rattle.model.specs.declared.Effect.{Effect}
 use Rattle.model.specs.declared.Step.the-variants.{Advance}
 use Rattle.tables.specs.declared.Record.{Record}
@@ -21,7 +21,7 @@ use Rattle.safety.specs.RunOn.{left, left-below}
 use Rattle.tables.specs.Layout.{Tables, record-at}
 use Rattle.tables.specs.View.{round-in, view}
 use Rattle.tables.specs.Records.{same-record, round-back}
-use Rattle.tables.specs.Write.{write, moved, entered}
+use Rattle.tables.specs.Write.{write, entered}
 use Rattle.tables.specs.Calls.{judge, performed, runs-further, advances-on, count-on}
 use Rattle.writing.specs.Doable.{Placed}
 use Rattle.rounds.specs.Runs.{Ran, ran, runs}

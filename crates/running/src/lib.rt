@@ -1,14 +1,12 @@
 // Run on: advances, up to one that closes a slot or is refused. The call of the library is `run_on`; it has no `requires`.
 use advancing::Progress;
-use advancing::progress_of;
+use advancing::advance_once;
 use cells::records::load;
 use cells::records::round_in;
-use judging::judge_step;
 use model::Answer;
 use model::Numbers;
 use model::ReplicaId;
 use model::Round;
-use model::Step;
 use rounds::run_state;
 use rounds::run_vote;
 ghost use mathlib.Core.Path.{_≡_};
@@ -101,9 +99,9 @@ pub fn run_on(
         let after = tables (now (records .exit)) (now (known .exit)) (now (tags .exit)) (now (holders .exit)) (now (proposals .exit)) (now (ballots .exit)) (now (heard .exit)) (now (logs .exit)) in
         ⌜ outcome r after ≡ ran-on numbers (now (strip .entry)) who before ⌝ }
 {
-    let effect = judge_step(
-        Step::Advance(who),
+    let first = advance_once(
         numbers,
+        who,
         records,
         known,
         tags,
@@ -114,34 +112,24 @@ pub fn run_on(
         logs,
         strip,
     );
-    let first = progress_of(effect);
     match first {
         Progress::Turned(why) => Answer::Refused(why),
-        Progress::Closed => Answer::Ran(run_from(
-            numbers,
-            who,
-            records,
-            known,
-            tags,
-            holders,
-            proposals,
-            ballots,
-            heard,
-            logs,
-            strip,
-        )),
-        Progress::Further => Answer::Ran(run_from(
-            numbers,
-            who,
-            records,
-            known,
-            tags,
-            holders,
-            proposals,
-            ballots,
-            heard,
-            logs,
-            strip,
-        )),
+        Progress::Closed => Answer::Ran(1),
+        Progress::Further => Answer::Ran(
+            1
+                + run_from(
+                    numbers,
+                    who,
+                    records,
+                    known,
+                    tags,
+                    holders,
+                    proposals,
+                    ballots,
+                    heard,
+                    logs,
+                    strip,
+                ),
+        ),
     }
 }

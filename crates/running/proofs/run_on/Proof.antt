@@ -1,16 +1,13 @@
-use mathlib.Core.Logic.{inl, inr}
+use native.Mathlib.Omega.{arith}
 use Rattle.tables.specs.Calls.{tables}
-use Rattle.running.proofs.EnoughLaws.{started}
-use Rattle.running.proofs.CallLaws.{call-refused, call-ran, call-accepted}
+use Rattle.rounds.proofs.RunLaws.{ran-low}
+use Rattle.running.proofs.CallLaws.{call-refused, call-closed, call-further, call-started}
 use borrow.Author.Needs.{needs}
 use Rattle.running.proofs.run_on.Statement.{statement}
 use Rattle.running.proofs.run_on.Tie as tie
 
-judge-step-requires : tie.Need-judge-step-requires
-judge-step-requires c κs = search needs
-
-progress-of-requires : tie.Need-progress-of-requires
-progress-of-requires c κs = search needs
+advance-once-requires : tie.Need-advance-once-requires
+advance-once-requires c κs = search needs
 
 enum-known-first : tie.Need-enum-known-first
 enum-known-first c = search needs
@@ -18,14 +15,14 @@ enum-known-first c = search needs
 enum-told : tie.Need-enum-told
 enum-told c = search needs
 
-run-from-requires : tie.Need-run-from-requires
-run-from-requires c κs = let a = c .before .before .before .before .before .before .before .before .before .before .before .before .before .before .before .before .before .before .before .before .before .before .before .before .before .before .before .before .args in let t = tables (a .records .now) (a .known .now) (a .tags .now) (a .holders .now) (a .proposals .now) (a .ballots .now) (a .heard .now) (a .logs .now) in let s = started (a .numbers) (a .strip .now) (a .who) t (call-accepted (a .numbers) (a .strip .now) (a .who) t (c .before .before .before .before .before .before .before .before .before .before .before .judge-step .ensures) (c .before .before .before .before .before .before .before .before .before .before .progress-of .ensures) (inl (c .before .before .before .before .before .before .before .before .enum-told .given .1))) in (s .phases, s .placed)
-
 enum-told-2 : tie.Need-enum-told-2
 enum-told-2 c = search needs
 
-run-from-requires-2 : tie.Need-run-from-requires-2
-run-from-requires-2 c κs = let a = c .before .before .before .before .before .before .before .before .before .before .before .before .before .before .before .before .before .before .before .before .before .before .before .before .before .before .before .before .args in let t = tables (a .records .now) (a .known .now) (a .tags .now) (a .holders .now) (a .proposals .now) (a .ballots .now) (a .heard .now) (a .logs .now) in let s = started (a .numbers) (a .strip .now) (a .who) t (call-accepted (a .numbers) (a .strip .now) (a .who) t (c .before .before .before .before .before .before .before .before .before .before .before .judge-step .ensures) (c .before .before .before .before .before .before .before .before .before .before .progress-of .ensures) (inr (c .before .before .before .before .before .before .before .before .enum-told2 .given .1))) in (s .phases, s .placed)
+run-from-requires : tie.Need-run-from-requires
+run-from-requires c κs = let a = c .before .before .before .before .before .before .before .before .before .before .before .before .before .before .before .before .before .before .before .before .before .before .before .before .before .before .before .before .before .before .before .before .before .before .before .before .before .before .before .before .before .args in let t = tables (a .records .now) (a .known .now) (a .tags .now) (a .holders .now) (a .proposals .now) (a .ballots .now) (a .heard .now) (a .logs .now) in let e = c .before .before .before .before .before .before .before .before .before .before .before .before .before .before .before .before .before .before .before .before .before .before .before .before .advance-once .ensures in let s = call-started (a .numbers) (a .strip .now) (a .who) t (e .0) (e .1) (c .before .before .before .before .before .before .before .before .enum-told2 .given .1) in (s .phases, record { few = s .placed .few; there = let l = c .before .before .before .before .before .before .before .before .before .before .before .before .before .before .before .before .before .before .before .before .before .before .before .before .advance-once .kept .1 .1 .0 in let p = s .placed .there in omega arith })
+
+add-t46 : tie.Need-add-t46
+add-t46 c = let a = c .before .before .before .before .before .before .before .before .before .before .before .before .before .before .before .before .before .before .before .before .before .before .before .before .before .before .before .before .before .before .before .before .before .before .before .before .before .before .before .before .before .before .before .before .before .before .before .before .before .before .before .before .before .before .before .before .args in let t = tables (a .records .now) (a .known .now) (a .tags .now) (a .holders .now) (a .proposals .now) (a .ballots .now) (a .heard .now) (a .logs .now) in let e = c .before .before .before .before .before .before .before .before .before .before .before .before .before .before .before .before .before .before .before .before .before .before .before .before .before .before .before .before .before .before .before .before .before .before .before .before .before .before .before .advance-once .ensures in let s = call-started (a .numbers) (a .strip .now) (a .who) t (e .0) (e .1) (c .before .before .before .before .before .before .before .before .before .before .before .before .before .before .before .before .before .before .before .before .before .before .before .enum-told2 .given .1) in let p = s .phases in omega (arith, ran-low (a .numbers) (a .strip .now) (a .who) _ _ (c .before .before .before .before .before .before .before .before .before .before .before .before .before .before .run-from .ensures))
 
 same-length : tie.Need-same-length
 same-length c = search needs
@@ -49,7 +46,7 @@ same-length-7 : tie.Need-same-length-7
 same-length-7 c = search needs
 
 returns : tie.Need-returns
-returns c = let a = c .before .before .before .before .before .before .before .before .before .before .before .before .before .before .before .before .before .before .before .before .before .args in let t = tables (a .records .now) (a .known .now) (a .tags .now) (a .holders .now) (a .proposals .now) (a .ballots .now) (a .heard .now) (a .logs .now) in call-refused (a .numbers) (a .strip .now) (a .who) t (c .before .before .before .before .judge-step .ensures) (c .before .before .before .progress-of .ensures) (c .before .first .given .1)
+returns c = let a = c .before .before .before .before .before .before .before .before .before .before .before .before .before .before .before .before .before .before .before .before .before .before .before .before .before .before .before .before .before .before .before .before .before .before .args in let t = tables (a .records .now) (a .known .now) (a .tags .now) (a .holders .now) (a .proposals .now) (a .ballots .now) (a .heard .now) (a .logs .now) in let e = c .before .before .before .before .before .before .before .before .before .before .before .before .before .before .before .before .before .advance-once .ensures in call-refused (a .numbers) (a .strip .now) (a .who) t (e .0) (e .1) (c .before .first .given .1)
 
 same-length-8 : tie.Need-same-length-8
 same-length-8 c = search needs
@@ -73,7 +70,7 @@ same-length-14 : tie.Need-same-length-14
 same-length-14 c = search needs
 
 returns-2 : tie.Need-returns-2
-returns-2 c = let a = c .before .before .before .before .before .before .before .before .before .before .before .before .before .before .before .before .before .before .before .before .before .before .before .before .before .before .before .before .before .before .before .before .before .before .before .before .before .before .before .before .before .before .before .args in let t = tables (a .records .now) (a .known .now) (a .tags .now) (a .holders .now) (a .proposals .now) (a .ballots .now) (a .heard .now) (a .logs .now) in call-ran (a .numbers) (a .strip .now) (a .who) t (c .before .before .before .before .before .before .before .before .before .before .before .before .before .before .before .before .before .before .before .before .before .before .before .before .before .before .judge-step .ensures) (c .before .before .before .before .before .before .before .before .before .before .before .before .before .before .before .before .before .before .before .before .before .before .before .before .before .progress-of .ensures) (inl (c .before .before .before .before .before .before .before .before .before .before .before .before .before .before .before .before .before .before .before .before .before .before .before .enum-told .given .1)) (c .before .before .before .before .before .before .before .before .before .before .before .before .before .before .run-from .ensures)
+returns-2 c = let a = c .before .before .before .before .before .before .before .before .before .before .before .before .before .before .before .before .before .before .before .before .before .before .before .before .before .before .before .before .before .before .before .before .before .args in let t = tables (a .records .now) (a .known .now) (a .tags .now) (a .holders .now) (a .proposals .now) (a .ballots .now) (a .heard .now) (a .logs .now) in let e = c .before .before .before .before .before .before .before .before .before .before .before .before .before .before .before .before .advance-once .ensures in call-closed (a .numbers) (a .strip .now) (a .who) t (e .0) (e .1) (c .enum-told .given .1)
 
 same-length-15 : tie.Need-same-length-15
 same-length-15 c = search needs
@@ -97,19 +94,18 @@ same-length-21 : tie.Need-same-length-21
 same-length-21 c = search needs
 
 returns-3 : tie.Need-returns-3
-returns-3 c = let a = c .before .before .before .before .before .before .before .before .before .before .before .before .before .before .before .before .before .before .before .before .before .before .before .before .before .before .before .before .before .before .before .before .before .before .before .before .before .before .before .before .before .before .before .args in let t = tables (a .records .now) (a .known .now) (a .tags .now) (a .holders .now) (a .proposals .now) (a .ballots .now) (a .heard .now) (a .logs .now) in call-ran (a .numbers) (a .strip .now) (a .who) t (c .before .before .before .before .before .before .before .before .before .before .before .before .before .before .before .before .before .before .before .before .before .before .before .before .before .before .judge-step .ensures) (c .before .before .before .before .before .before .before .before .before .before .before .before .before .before .before .before .before .before .before .before .before .before .before .before .before .progress-of .ensures) (inr (c .before .before .before .before .before .before .before .before .before .before .before .before .before .before .before .before .before .before .before .before .before .before .before .enum-told2 .given .1)) (c .before .before .before .before .before .before .before .before .before .before .before .before .before .before .run-from2 .ensures)
+returns-3 c = let a = c .before .before .before .before .before .before .before .before .before .before .before .before .before .before .before .before .before .before .before .before .before .before .before .before .before .before .before .before .before .before .before .before .before .before .before .before .before .before .before .before .before .before .before .before .before .before .before .before .before .before .before .before .before .before .before .before .args in let t = tables (a .records .now) (a .known .now) (a .tags .now) (a .holders .now) (a .proposals .now) (a .ballots .now) (a .heard .now) (a .logs .now) in let e = c .before .before .before .before .before .before .before .before .before .before .before .before .before .before .before .before .before .before .before .before .before .before .before .before .before .before .before .before .before .before .before .before .before .before .before .before .before .before .before .advance-once .ensures in call-further (a .numbers) (a .strip .now) (a .who) t (e .0) (e .1) (c .before .before .before .before .before .before .before .before .before .before .before .before .before .before .before .before .before .before .before .before .before .before .before .enum-told2 .given .1) (c .before .before .before .before .before .before .before .before .before .before .before .before .before .before .run-from .ensures)
 
 pub run-on-spec : {M : Type 1} → statement M
 run-on-spec =
     tie.close
     (tie.spec
-    judge-step-requires
-    progress-of-requires
+    advance-once-requires
     enum-known-first
     enum-told
-    run-from-requires
     enum-told-2
-    run-from-requires-2
+    run-from-requires
+    add-t46
     same-length
     same-length-2
     same-length-3
