@@ -1,10 +1,12 @@
 -- The report grows line by line.
-use Prim.Native.Nat.{ℕ, suc, _+_}
+use Prim.Native.Nat.{ℕ, zero, suc, _+_, _≤_, _<_}
+use native.Mathlib.Omega.{arith}
 use native.Mathlib.Numerals.{add-one}
-use native.Mathlib.Nat.{le-refl}
-use mathlib.Core.Bool.{Bool, true, false}
+use native.Mathlib.Nat.{le-refl, eq-or-lt-of-le}
+use mathlib.Core.Bool.{true, false}
 use mathlib.Core.List.{List, []}
-use mathlib.Core.Path.{_≡_, refl, sym, _∙_, ap, subst}
+use mathlib.Core.Logic.{⊎-elim}
+use mathlib.Core.Path.{_≡_, sym, _∙_, ap, subst}
 use lib.ListN.{length}
 use Rattle.model.specs.declared.Numbers.{Numbers}
 use Rattle.model.proofs.Branches.{if-true, if-false}
@@ -17,14 +19,12 @@ use Rattle.report.proofs.BenchLaws.{by-view}
 use Rattle.player.specs.declared.Said.{Said}
 use Rattle.player.specs.Play.{Turn, goes-on, turn-on, play, begun}
 use Rattle.session.specs.Played.{opened-bounds}
+use Rattle.session.proofs.RecordLaws.{still}
 use Rattle.session.specs.Reported.{said-line, line-on, lines, ending, fresh, whole, report}
 
 -- what is said of a record is one of its cases
 pub says : (p : Page) {q : Page} (k : ℕ) (said s : Said) → said ≡ s → q ≡ print p (said-line k s) → q ≡ print p (said-line k said)
 says p k said s e h = same-text p _ _ (ap (said-line k) (sym e)) h
-
-pub no-line : (p : Page) (k : ℕ) (s : Said) → said-line k s ≡ [] → p ≡ print p (said-line k s)
-no-line p k s e = same-text p [] (said-line k s) (sym e) (nothing p)
 
 module _ (most : Numbers) (file : List ℕ) where
   pub line-more : (p : Page) {q : Page} (k : ℕ) (x : Turn) {y : Turn} → goes-on (x .said) ≡ true → y ≡ turn-on most file x
@@ -32,24 +32,40 @@ module _ (most : Numbers) (file : List ℕ) where
   unfolding line-on
   line-more p k x h e g = same-text p _ _ (ap (λ (z : Turn). said-line k (z .said)) e ∙ sym (if-true _ _ h)) g
 
-  pub line-none : (p : Page) (k : ℕ) (x : Turn) → goes-on (x .said) ≡ false → p ≡ print p (line-on k most file x)
+  line-none : (p : Page) (k : ℕ) (x : Turn) → goes-on (x .said) ≡ false → p ≡ print p (line-on k most file x)
   unfolding line-on
   line-none p k x h = same-text p [] _ (sym (if-false _ _ h)) (nothing p)
 
   module _ (p : Page) (x : Turn) where
-    pub lines-none : p ≡ print p (lines 0 most file x)
+    pub lines-none : {q : Page} → q ≡ p → q ≡ print p (lines 0 most file x)
     unfolding lines
-    lines-none = nothing p
+    lines-none e = e ∙ nothing p
 
-    pub lines-more : {q r : Page} {y : Turn} (i : ℕ) → q ≡ print p (lines i most file x) → y ≡ play i most file x → r ≡ print q (line-on (i + 1) most file y)
+    -- the next record has the next number
+    pub lines-more : {q r : Page} {y : Turn} (i k : ℕ) → q ≡ print p (lines i most file x) → y ≡ play i most file x → r ≡ print q (line-on k most file y) → k ≡ i + 1
         → r ≡ print p (lines (i + 1) most file x)
     unfolding lines
-    lines-more {q} {r} {y} i e h g =
-        then p (lines i most file x) _ e (same-text q _ _ (ap (λ (k : ℕ). line-on k most file y) (add-one i) ∙ ap (line-on (suc i) most file) h) g)
+    lines-more {q} {r} {y} i k e h g next =
+        then p (lines i most file x) _ e (same-text q _ _ (ap (λ (k : ℕ). line-on k most file y) (next ∙ add-one i) ∙ ap (line-on (suc i) most file) h) g)
         ∙ ap (λ (k : ℕ). print p (lines k most file x)) (sym (add-one i))
 
     pub lines-all : {q : Page} {i n : ℕ} → q ≡ print p (lines i most file x) → i ≡ n → q ≡ print p (lines n most file x)
     lines-all e h = e ∙ ap (λ (k : ℕ). print p (lines k most file x)) h
+
+    -- where reading does not go on, no further line is written
+    lines-still : {q : Page} (i n : ℕ) → i ≤ n → goes-on (play i most file x .said) ≡ false → q ≡ print p (lines i most file x) → q ≡ print p (lines n most file x)
+    unfolding lines
+    lines-still i zero l h e = let g : i ≡ 0 = omega arith in lines-all e g
+    lines-still {q} i (suc n) l h e =
+        ⊎-elim (λ (g : i ≡ suc n). lines-all e g)
+        (λ (g : i < suc n).
+        let k : i ≤ n = omega arith in
+        let stop = ap (λ (y : Turn). goes-on (y .said)) (still most file x i n k h) ∙ h in
+        then p (lines n most file x) _ (lines-still i n k h e) (line-none q _ _ stop)) (eq-or-lt-of-le l)
+
+    pub lines-stopped : {q : Page} {i n : ℕ} {y : Turn} → i ≤ n → goes-on (y .said) ≡ false → y ≡ play i most file x → q ≡ print p (lines i most file x)
+        → q ≡ print p (lines n most file x)
+    lines-stopped l h g e = lines-still _ _ l (ap (λ (y : Turn). goes-on (y .said)) (sym g) ∙ h) e
 
   -- ---- the end
 

@@ -4,7 +4,6 @@ use mathlib.Core.Bool.{false}
 use mathlib.Core.List.{List, [], _++_}
 use lib.ListN.{length}
 use Rattle.model.specs.declared.Numbers.{Numbers}
-use Rattle.model.specs.declared.Answer.{Answer}
 use Rattle.model.specs.declared.Answer.the-variants.{Refused, Done, Ran, Opened}
 use Rattle.model.specs.Tests.{if}
 use Rattle.tables.specs.Layout.{Tables}

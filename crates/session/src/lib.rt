@@ -12,11 +12,12 @@ ghost use mathlib.Core.Path.{_≡_};
 ghost use Prim.Native.Nat.{_<_};
 ghost use lib.ListN.{length};
 ghost use Rattle.model.specs.declared.Answer.{Answer};
+ghost use Rattle.model.specs.declared.Answer.the-variants.{Done};
 ghost use Rattle.player.specs.declared.Said.the-variants.{Answered};
 ghost use Rattle.tables.specs.Calls.{tables};
-ghost use Rattle.player.specs.Play.{turn-of, goes-on, turn-on, play as played-on, begun};
+ghost use Rattle.player.specs.Play.{turn-of, turn, goes-on, play as played-on, begun};
 ghost use Rattle.report.specs.Page.{page, print};
-ghost use Rattle.session.specs.Reported.{said-line, line-on, lines, fresh, whole, report as report-of};
+ghost use Rattle.session.specs.Reported.{said-line, lines, fresh, whole, report as report-of};
 
 pub struct Session {
     // what the last record came to
@@ -57,7 +58,7 @@ fn put_said(k: usize, said: Said, report: &mut [u8], at: usize) -> usize
     }
 }
 
-// One record more, as number k, unless the file has ended or reading has stopped.
+// One record more, as number k.
 fn play_on(
     most: Numbers,
     file: &[u8],
@@ -77,38 +78,57 @@ fn play_on(
     ensures { λ r.
         let before = tables (now (records .entry)) (now (known .entry)) (now (tags .entry)) (now (holders .entry)) (now (proposals .entry)) (now (ballots .entry)) (now (heard .entry)) (now (logs .entry)) in
         let after = tables (now (records .exit)) (now (known .exit)) (now (tags .exit)) (now (holders .exit)) (now (proposals .exit)) (now (ballots .exit)) (now (heard .exit)) (now (logs .exit)) in
-        let x = turn-of (session .last .said) (session .last .player) before (now (strip .entry)) in
-        ⌜ (turn-of (r .last .said) (r .last .player) after (now (strip .exit)) ≡ turn-on most (now (file .entry)) x)
-        × (page (now (report .exit)) (r .written) ≡ print (page (now (report .entry)) (session .written)) (line-on k most (now (file .entry)) x)) ⌝ }
+        ⌜ (turn-of (r .last .said) (r .last .player) after (now (strip .exit)) ≡ turn most (now (file .entry)) (session .last .player) before (now (strip .entry)))
+        × (page (now (report .exit)) (r .written) ≡ print (page (now (report .entry)) (session .written)) (said-line k (r .last .said))) ⌝ }
 {
     let last = session.last;
-    let said = last.said;
-    if said_more(said) {
-        let player = last.player;
-        let next = play_record(
-            most,
-            file,
-            player,
-            records,
-            known,
-            tags,
-            holders,
-            proposals,
-            ballots,
-            heard,
-            logs,
-            strip,
-        );
-        let answered = next.said;
-        let written = put_said(k, answered, report, session.written);
-        return Session {
-            last: next,
-            written,
-        };
+    let player = last.player;
+    let next = play_record(
+        most,
+        file,
+        player,
+        records,
+        known,
+        tags,
+        holders,
+        proposals,
+        ballots,
+        heard,
+        logs,
+        strip,
+    );
+    let said = next.said;
+    let written = put_said(k, said, report, session.written);
+    Session {
+        last: next,
+        written,
     }
-    session
 }
 
+// before the first record
+fn unplayed() -> Session
+    ensures { λ r. ⌜ (r .last .said ≡ Answered Done) × (r .last .player ≡ fresh) × (r .written ≡ 0) ⌝ }
+{
+    Session {
+        last: Played {
+            said: Said::Answered(Answer::Done),
+            player: Player {
+                at: 0,
+                opened: false,
+                numbers: Numbers {
+                    n: 0,
+                    f: 0,
+                    slots: 0,
+                    phases: 0,
+                    room: 0,
+                },
+            },
+        },
+        written: 0,
+    }
+}
+
+// Every record is played, until the file has ended or reading has stopped.
 fn play_records(
     most: Numbers,
     file: &[u8],
@@ -130,25 +150,14 @@ fn play_records(
         ⌜ (turn-of (r .last .said) (r .last .player) after (now (strip .exit)) ≡ played-on (length (now (file .entry))) most (now (file .entry)) x)
         × (page (now (report .exit)) (r .written) ≡ print (page (now (report .entry)) 0) (lines (length (now (file .entry))) most (now (file .entry)) x)) ⌝ }
 {
-    let mut session = Session {
-        last: Played {
-            said: Said::Answered(Answer::Done),
-            player: Player {
-                at: 0,
-                opened: false,
-                numbers: Numbers {
-                    n: 0,
-                    f: 0,
-                    slots: 0,
-                    phases: 0,
-                    room: 0,
-                },
-            },
-        },
-        written: 0,
-    };
+    let mut session = unplayed();
     let mut i = 0;
     while i < file.len() {
+        let last = session.last;
+        let said = last.said;
+        if !said_more(said) {
+            return session;
+        }
         session = play_on(
             most,
             file,

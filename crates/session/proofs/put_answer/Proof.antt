@@ -7,59 +7,43 @@ use Rattle.session.proofs.ReportLaws.{says}
 use borrow.Author.Needs.{needs}
 use Rattle.session.proofs.put_answer.Statement.{statement}
 use Rattle.session.proofs.put_answer.Tie as tie
-use Rattle.session.proofs.put_answer.Reads as reads
-use Rattle.session.proofs.put_answer.Lts as lts
-use Rattle.report.proofs.lines.put_opened.Reads as put-opened-reads
-use Rattle.report.proofs.lines.put_refused.Reads as put-refused-reads
 
--- src/lib.rt:42:25
 enum-known-answer : tie.Need-enum-known-answer
 enum-known-answer c = search needs
 
--- src/lib.rt:42:33
 put-refused-requires : tie.Need-put-refused-requires
 put-refused-requires c κs = search needs
 
--- src/lib.rt:43:25
 enum-told : tie.Need-enum-told
 enum-told c = search needs
 
--- src/lib.rt:44:27
 enum-told-2 : tie.Need-enum-told-2
 enum-told-2 c = search needs
 
--- src/lib.rt:45:24
 enum-known-answer-2 : tie.Need-enum-known-answer-2
 enum-known-answer-2 c = search needs
 
--- src/lib.rt:45:36
 put-opened-requires : tie.Need-put-opened-requires
 put-opened-requires c κs = search needs
 
--- src/lib.rt:38:1
 same-length : tie.Need-same-length
 same-length c = search needs
 
--- src/lib.rt:38:1
 returns : tie.Need-returns
 unfolding said-line
 returns c = says _ _ _ (Answered (Refused _)) (ap Answered (c .before .before .before .before .before .answer .given .1)) (c .before .before .put-refused .ensures)
 
--- src/lib.rt:38:1
 returns-2 : tie.Need-returns-2
 unfolding said-line
 returns-2 c = says _ _ _ (Answered Done) (ap Answered (c .enum-told .given .1)) (nothing _)
 
--- src/lib.rt:38:1
 returns-3 : tie.Need-returns-3
 unfolding said-line
 returns-3 c = says _ _ _ (Answered (Ran _)) (ap Answered (c .enum-told2 .given .1)) (nothing _)
 
--- src/lib.rt:38:1
 same-length-2 : tie.Need-same-length-2
 same-length-2 c = search needs
 
--- src/lib.rt:38:1
 returns-4 : tie.Need-returns-4
 unfolding said-line
 returns-4 c = says _ _ _ (Answered (Opened _)) (ap Answered (c .before .before .before .before .before .answer2 .given .1)) (c .before .before .put-opened .ensures)

@@ -5,50 +5,36 @@ use Rattle.session.proofs.ReportLaws.{says}
 use borrow.Author.Needs.{needs}
 use Rattle.session.proofs.put_said.Statement.{statement}
 use Rattle.session.proofs.put_said.Tie as tie
-use Rattle.session.proofs.put_said.Reads as reads
-use Rattle.session.proofs.put_said.Lts as lts
-use Rattle.report.proofs.lines.put_refused.Reads as put-refused-reads
-use Rattle.session.proofs.put_answer.Reads as put-answer-reads
 
--- src/lib.rt:54:26
 enum-told : tie.Need-enum-told
 enum-told c = search needs
 
--- src/lib.rt:55:23
 enum-known-said : tie.Need-enum-known-said
 enum-known-said c = search needs
 
--- src/lib.rt:55:31
 put-refused-requires : tie.Need-put-refused-requires
 put-refused-requires c κs = search needs
 
--- src/lib.rt:56:24
 enum-known-said-2 : tie.Need-enum-known-said-2
 enum-known-said-2 c = search needs
 
--- src/lib.rt:56:35
 put-answer-requires : tie.Need-put-answer-requires
 put-answer-requires c κs = search needs
 
--- src/lib.rt:50:1
 returns : tie.Need-returns
 unfolding said-line
 returns c = says _ _ _ Nothing (c .enum-told .given .1) (nothing _)
 
--- src/lib.rt:50:1
 same-length : tie.Need-same-length
 same-length c = search needs
 
--- src/lib.rt:50:1
 returns-2 : tie.Need-returns-2
 unfolding said-line
 returns-2 c = says _ _ _ (Stopped _) (c .before .before .before .before .before .said .given .1) (c .before .before .put-refused .ensures)
 
--- src/lib.rt:50:1
 same-length-2 : tie.Need-same-length-2
 same-length-2 c = search needs
 
--- src/lib.rt:50:1
 returns-3 : tie.Need-returns-3
 returns-3 c = says _ _ _ (Answered _) (c .before .before .before .before .before .said2 .given .1) (c .before .before .put-answer .ensures)
 
