@@ -1,7 +1,11 @@
 //! Document 01's order log, written from the document and apart from the library, and what compares the two: by
-//! whole step files (the program `sessions`) and by direct calls on ordinary and damaged tables (`calls`).
+//! whole step files (the program `sessions`) and by direct calls on ordinary and damaged tables (`calls`), and in time
+//! (`bench`).
 
+#[cfg(feature = "library")]
+pub mod batch;
 pub mod call;
+pub mod cases;
 #[cfg(test)]
 mod check_points;
 pub mod coin;
@@ -16,6 +20,7 @@ pub mod options;
 pub mod random;
 pub mod refusal;
 pub mod rules;
+pub mod script;
 pub mod step_file;
 pub mod tables;
 pub mod tally;

@@ -1,0 +1,227 @@
+//! A case in copies that are measured together, since one call is too short for the clock. Both sides use the same
+//! copies; what a call changed is put back in between, outside the measured time.
+
+use crate::call::Call;
+use crate::cases::{Case, Work};
+use crate::coin;
+use crate::compare::{compare_play, Difference, Pair};
+use crate::library;
+use crate::numbers::Numbers;
+use crate::refusal::Refusal;
+use crate::rules;
+use crate::step_file;
+use crate::tables::{Record, Tables};
+use std::hint::black_box;
+use std::time::{Duration, Instant};
+
+/// Longer than any report of the cases.
+const REPORT: usize = 1 << 16;
+
+#[derive(Clone, Copy)]
+pub enum Side {
+    Library,
+    Separate,
+}
+
+/// What one call is lent.
+#[derive(Clone)]
+struct Lent {
+    tables: Tables,
+    record: Record,
+    report: Vec<u8>,
+}
+
+pub struct Batch {
+    case: Case,
+    /// Before the call.
+    before: Lent,
+    undo: Undo,
+    copies: Vec<Lent>,
+}
+
+impl Case {
+    /// Makes the call of both sides; the answers and every cell must be equal, and the call do what it should.
+    pub fn check(&self) -> Result<(), Difference> {
+        let tables = self.tables.clone();
+        match &self.work {
+            Work::Call(call) => {
+                let result = Pair::of(tables).call(call, &self.numbers)?;
+                (self.does)(&result).then_some(()).ok_or(format!("did {result:?}"))
+            }
+            Work::Play { file } => compare_play(&self.numbers, file, REPORT, tables),
+            Work::FillStrip { .. } | Work::Crash { .. } => self.check_small(),
+        }
+    }
+
+    /// The calls that are not lent the tables; both sides must accept them.
+    fn check_small(&self) -> Result<(), Difference> {
+        let [library, separate] = [Side::Library, Side::Separate].map(|side| {
+            let mut lent = self.lent();
+            (self.make(side, &mut lent), lent.tables.strip, lent.record)
+        });
+        let right = library == separate && library.0 == 0;
+        right.then_some(()).ok_or(format!("answers {} and {}", separate.0, library.0))
+    }
+
+    fn lent(&self) -> Lent {
+        let (record, report) = match self.work {
+            Work::Crash { who } => (self.tables.record(who).unwrap_or_default(), Vec::new()),
+            Work::Play { .. } => (Record::default(), vec![0; REPORT]),
+            _ => (Record::default(), Vec::new()),
+        };
+        Lent { tables: self.tables.clone(), record, report }
+    }
+
+    /// So many that the clock's steps do not show, so few that the cells in use stay in the first cache.
+    fn copies(&self) -> usize {
+        match self.work {
+            Work::Play { .. } | Work::Call(Call::Open { .. }) => 1,
+            Work::Crash { .. } => 128,
+            _ => 16,
+        }
+    }
+
+    /// Each side is given what the compiler cannot know, and its answer is used.
+    fn make(&self, side: Side, lent: &mut Lent) -> usize {
+        let (work, numbers, lent) = (black_box(&self.work), black_box(&self.numbers), black_box(lent));
+        match side {
+            Side::Library => make_library(work, numbers, lent),
+            Side::Separate => make_separate(work, numbers, lent),
+        }
+    }
+}
+
+fn make_library(work: &Work, numbers: &Numbers, lent: &mut Lent) -> usize {
+    let Lent { tables, record, report } = lent;
+    match work {
+        Work::Call(call) => black_box(&library::make(call, numbers, tables)).refusal,
+        Work::FillStrip { start } => {
+            library::fill_strip(numbers.slots, numbers.phases, *start, &mut tables.strip)
+        }
+        Work::Crash { who } => library::crash(numbers, *who, record),
+        Work::Play { file } => black_box(&library::play(numbers, file, report, tables)).written,
+    }
+}
+
+fn make_separate(work: &Work, numbers: &Numbers, lent: &mut Lent) -> usize {
+    let Lent { tables, record, .. } = lent;
+    match work {
+        Work::Call(call) => refusal(black_box(&call.make(numbers, tables))),
+        Work::FillStrip { start } => {
+            refusal(&coin::fill_strip(numbers.slots, numbers.phases, *start, &mut tables.strip))
+        }
+        Work::Crash { who } => refusal(&rules::crash(numbers, *who, record)),
+        Work::Play { file } => black_box(&step_file::play(numbers, file, tables)).report.len(),
+    }
+}
+
+fn refusal<T>(result: &Result<T, Refusal>) -> usize {
+    result.as_ref().err().map_or(0, |refusal| refusal.number())
+}
+
+impl Batch {
+    pub fn of(case: Case) -> Batch {
+        let before = case.lent();
+        let mut after = before.clone();
+        case.make(Side::Separate, &mut after);
+        let undo = Undo::between(&before.tables, &after.tables);
+        let copies = vec![before.clone(); case.copies()];
+        Batch { case, before, undo, copies }
+    }
+
+    pub fn name(&self) -> &str {
+        &self.case.name
+    }
+
+    /// Nanoseconds of one call; `clock` is what the clock itself takes.
+    pub fn measure(&mut self, side: Side, clock: Duration) -> f64 {
+        let start = Instant::now();
+        self.make(side);
+        let spent = start.elapsed();
+        self.restore();
+        spent.saturating_sub(clock).as_nanos() as f64 / self.copies.len() as f64
+    }
+
+    /// As `measure`, without the clock. Answers how many calls were made.
+    pub fn repeat(&mut self, side: Side) -> usize {
+        self.make(side);
+        self.restore();
+        self.copies.len()
+    }
+
+    fn make(&mut self, side: Side) {
+        let answers: usize = self.copies.iter_mut().map(|lent| self.case.make(side, lent)).sum();
+        black_box(answers);
+    }
+
+    fn restore(&mut self) {
+        for lent in &mut self.copies {
+            self.undo.put_back(&mut lent.tables);
+            lent.record = self.before.record;
+        }
+    }
+
+    /// Whether all was put back; else later calls were others than the first.
+    pub fn is_restored(&self) -> bool {
+        self.copies.iter().all(|lent| lent.tables == self.before.tables && lent.record == self.before.record)
+    }
+}
+
+/// The median of what two looks at the clock measure when nothing is between them.
+pub fn clock() -> Duration {
+    let mut spans: Vec<Duration> = (0..999).map(|_| Instant::now().elapsed()).collect();
+    spans.sort();
+    spans[spans.len() / 2]
+}
+
+/// The cells that a call changes, as they were. Few as a rule: whole copies would sweep the caches.
+struct Undo {
+    records: Vec<(usize, u16)>,
+    known: u16,
+    tags: Vec<(usize, u64)>,
+    holders: Vec<(usize, u16)>,
+    proposals: Vec<(usize, u64)>,
+    ballots: Vec<(usize, u8)>,
+    heard: Vec<(usize, u16)>,
+    logs: Vec<(usize, u64)>,
+    strip: Vec<(usize, u8)>,
+}
+
+impl Undo {
+    fn between(before: &Tables, after: &Tables) -> Undo {
+        Undo {
+            records: changed(&before.records, &after.records),
+            known: before.known,
+            tags: changed(&before.tags, &after.tags),
+            holders: changed(&before.holders, &after.holders),
+            proposals: changed(&before.proposals, &after.proposals),
+            ballots: changed(&before.ballots, &after.ballots),
+            heard: changed(&before.heard, &after.heard),
+            logs: changed(&before.logs, &after.logs),
+            strip: changed(&before.strip, &after.strip),
+        }
+    }
+
+    fn put_back(&self, tables: &mut Tables) {
+        put(&self.records, &mut tables.records);
+        tables.known = self.known;
+        put(&self.tags, &mut tables.tags);
+        put(&self.holders, &mut tables.holders);
+        put(&self.proposals, &mut tables.proposals);
+        put(&self.ballots, &mut tables.ballots);
+        put(&self.heard, &mut tables.heard);
+        put(&self.logs, &mut tables.logs);
+        put(&self.strip, &mut tables.strip);
+    }
+}
+
+fn changed<T: Copy + PartialEq>(before: &[T], after: &[T]) -> Vec<(usize, T)> {
+    let cells = before.iter().copied().enumerate().zip(after);
+    cells.filter(|((_, old), new)| old != *new).map(|(cell, _)| cell).collect()
+}
+
+fn put<T: Copy>(cells: &[(usize, T)], table: &mut [T]) {
+    for &(place, value) in cells {
+        table[place] = value;
+    }
+}

@@ -1,0 +1,263 @@
+//! `bench [--quick]`: nanoseconds of each call of the library beside the separate implementation, and how the
+//! library's grow, as two Markdown tables. `--quick` takes a tenth of the samples.
+//! `bench --callgrind CALL N`: the library's call many times in a rack of N replicas, to count instructions.
+
+use separate::batch::{clock, Batch, Side};
+use separate::cases::{Case, Kind, KINDS};
+use separate::numbers::Numbers;
+use separate::script::Fill;
+use std::env;
+use std::process::ExitCode;
+
+const SAMPLES: usize = 4000;
+const RACKS: [usize; 3] = [3, 5, 15];
+const HALF: Fill = Fill { known: 128, closed: 32 };
+const NEARLY_EMPTY: Fill = Fill { known: 1, closed: 0 };
+/// Of the step file that is played.
+const PLAYED: Fill = Fill { known: 16, closed: 8 };
+/// The calls whose cost depends on the known tags and closed slots.
+const BY_FILL: [&str; 4] = ["submit-new", "submit-known", "relay", "begin"];
+/// The rack in which known tags and slots grow.
+const GROWING: usize = 5;
+
+/// Replicas, slots and fill of one case.
+type Point = (usize, usize, Fill);
+
+/// A call's cost as one number grows.
+struct Series {
+    name: &'static str,
+    growing: &'static str,
+    values: &'static [usize],
+    point: fn(usize) -> Point,
+}
+
+const fn grow(
+    name: &'static str,
+    growing: &'static str,
+    values: &'static [usize],
+    point: fn(usize) -> Point,
+) -> Series {
+    Series { name, growing, values, point }
+}
+
+/// A submit of a new tag needs a room that is not full.
+static SERIES: [Series; 23] = [
+    grow("hear-proposal", "slots", &[1, 8, 64], last_slot),
+    grow("hear-state", "slots", &[1, 8, 64], last_slot),
+    grow("hear-vote", "slots", &[1, 8, 64], last_slot),
+    grow("hear-proposal", "known tags", &[1, 64, 256], known),
+    grow("hear-state", "known tags", &[1, 64, 256], known),
+    grow("hear-vote", "known tags", &[1, 64, 256], known),
+    grow("hear-vote", "n", &[3, 5, 9, 15], rack),
+    grow("submit-blank", "n", &[3, 5, 9, 15], rack),
+    grow("submit-new", "known tags", &[16, 64, 255], known),
+    grow("submit-known", "known tags", &[16, 64, 256], known),
+    grow("relay", "known tags", &[16, 64, 256], known),
+    grow("begin", "n", &[3, 5, 9, 15], rack),
+    grow("begin", "known tags", &[16, 64, 256], known),
+    grow("begin", "closed slots (64 known tags)", &[0, 16, 63], closed_of_64),
+    grow("begin", "closed slots (256 known tags)", &[0, 16, 63], closed_of_256),
+    grow("exchange", "n", &[3, 5, 9, 15], rack),
+    grow("exchange-apart", "n", &[3, 5, 9, 15], rack),
+    grow("state", "n", &[3, 5, 9, 15], rack),
+    grow("vote-close", "n", &[3, 5, 9, 15], rack),
+    grow("vote-coin", "n", &[3, 5, 9, 15], rack),
+    grow("find", "n", &[3, 5, 9, 15], rack),
+    grow("run-on", "n", &[3, 5, 9, 15], rack),
+    grow("play", "closed slots (64 known tags)", &[1, 8, 64], closed_of_64),
+];
+
+fn rack(n: usize) -> Point {
+    (n, 64, HALF)
+}
+
+/// A message of the last slot of a run.
+fn last_slot(slots: usize) -> Point {
+    (GROWING, slots, Fill { known: 64, closed: slots - 1 })
+}
+
+fn known(known: usize) -> Point {
+    (GROWING, 64, Fill { known, closed: 0 })
+}
+
+fn closed_of_64(closed: usize) -> Point {
+    (GROWING, 64, Fill { known: 64, closed })
+}
+
+fn closed_of_256(closed: usize) -> Point {
+    (GROWING, 64, Fill { known: 256, closed })
+}
+
+fn main() -> ExitCode {
+    let arguments: Vec<String> = env::args().skip(1).collect();
+    let arguments: Vec<&str> = arguments.iter().map(String::as_str).collect();
+    let done = match arguments[..] {
+        [] => print_tables(SAMPLES),
+        ["--quick"] => print_tables(SAMPLES / 10),
+        ["--callgrind", name, n] => repeat(name, n),
+        _ => Err("bench [--quick | --callgrind CALL N]".to_string()),
+    };
+    match done {
+        Ok(()) => ExitCode::SUCCESS,
+        Err(message) => {
+            eprintln!("{message}");
+            ExitCode::FAILURE
+        }
+    }
+}
+
+fn numbers(n: usize, slots: usize) -> Numbers {
+    Numbers { n, f: (n - 1) / 2, slots, phases: 8, room: 256 }
+}
+
+fn case(kind: &Kind, (n, slots, fill): Point) -> Case {
+    kind.case(&numbers(n, slots), fill)
+}
+
+fn named(name: &str) -> Result<&'static Kind, String> {
+    Kind::named(name).ok_or_else(|| {
+        let names: Vec<&str> = KINDS.iter().map(|kind| kind.name).collect();
+        format!("{name} is none of {}", names.join(", "))
+    })
+}
+
+/// All is checked before anything is measured or printed.
+fn print_tables(samples: usize) -> Result<(), String> {
+    let beside = cases_beside();
+    for &(kind, point) in beside.iter().chain(&cases_growing()?) {
+        let case = case(kind, point);
+        case.check().map_err(|difference| format!("{}: {difference}", case.name))?;
+    }
+    let columns = "library, ns | separate, ns | library / separate | 10 % to 90 %";
+    println!("| call | known tags, closed slots | n | {columns} |");
+    println!("|---|---:|---:|---:|---:|---:|---:|");
+    for (kind, point) in beside {
+        println!("{}", row_beside(kind, point, samples)?);
+    }
+    println!("\n| call | n | growing | values | library, ns | last / first |");
+    println!("|---|---:|---|---|---|---:|");
+    for series in &SERIES {
+        println!("{}", row_growing(series, samples)?);
+    }
+    Ok(())
+}
+
+fn cases_beside() -> Vec<(&'static Kind, Point)> {
+    let mut cases = Vec::new();
+    for kind in &KINDS {
+        let fill = if kind.name == "play" { PLAYED } else { HALF };
+        let fills = if BY_FILL.contains(&kind.name) { vec![NEARLY_EMPTY, fill] } else { vec![fill] };
+        for fill in fills {
+            cases.extend(RACKS.map(|n| (kind, (n, 64, fill))));
+        }
+    }
+    cases
+}
+
+fn cases_growing() -> Result<Vec<(&'static Kind, Point)>, String> {
+    let mut cases = Vec::new();
+    for Series { name, values, point, .. } in &SERIES {
+        let kind = named(name)?;
+        cases.extend(values.iter().map(|&value| (kind, point(value))));
+    }
+    Ok(cases)
+}
+
+fn row_beside(kind: &Kind, point: Point, samples: usize) -> Result<String, String> {
+    let (n, _, fill) = point;
+    let mut batches = [Batch::of(case(kind, point))];
+    let measured = interleave(&mut batches, &[Side::Library, Side::Separate], samples_of(kind, samples))?;
+    let [library, separate] = [&measured[0], &measured[1]];
+    let ratios: Vec<f64> =
+        library.iter().zip(separate).map(|(library, separate)| library / separate).collect();
+    Ok(format!(
+        "| {} | {}, {} | {n} | {} | {} | {:.2} | {:.2} to {:.2} |",
+        kind.words,
+        fill.known,
+        fill.closed,
+        rounded(percentile(library, 50)),
+        rounded(percentile(separate, 50)),
+        percentile(&ratios, 50),
+        percentile(&ratios, 10),
+        percentile(&ratios, 90),
+    ))
+}
+
+fn row_growing(series: &Series, samples: usize) -> Result<String, String> {
+    let kind = named(series.name)?;
+    let batch = |&value: &usize| Batch::of(case(kind, (series.point)(value)));
+    let mut batches: Vec<Batch> = series.values.iter().map(batch).collect();
+    let measured = interleave(&mut batches, &[Side::Library], samples_of(kind, samples))?;
+    let medians: Vec<f64> = measured.iter().map(|samples| percentile(samples, 50)).collect();
+    let rack = if series.growing == "n" { String::new() } else { GROWING.to_string() };
+    Ok(format!(
+        "| {} | {rack} | {} | {} | {} | {:.2} |",
+        kind.words,
+        series.growing,
+        listed(series.values.iter().map(usize::to_string)),
+        listed(medians.iter().copied().map(rounded)),
+        medians[medians.len() - 1] / medians[0],
+    ))
+}
+
+/// A step file is thousands of calls.
+fn samples_of(kind: &Kind, samples: usize) -> usize {
+    if kind.name == "play" {
+        samples / 20
+    } else {
+        samples
+    }
+}
+
+/// Nanoseconds by batch and side, all in turn in each sample, so that a busy moment of the machine meets all alike.
+fn interleave(batches: &mut [Batch], sides: &[Side], samples: usize) -> Result<Vec<Vec<f64>>, String> {
+    let mut measured = vec![Vec::with_capacity(samples); batches.len() * sides.len()];
+    let (warming, clock) = (samples / 10, clock());
+    for sample in 0..warming + samples {
+        for (batch, measured) in batches.iter_mut().zip(measured.chunks_mut(sides.len())) {
+            for (&side, times) in sides.iter().zip(measured) {
+                let time = batch.measure(side, clock);
+                if sample >= warming {
+                    times.push(time);
+                }
+            }
+        }
+    }
+    match batches.iter().find(|batch| !batch.is_restored()) {
+        Some(batch) => Err(format!("{}: not restored", batch.name())),
+        None => Ok(measured),
+    }
+}
+
+fn percentile(samples: &[f64], percent: usize) -> f64 {
+    let mut sorted = samples.to_vec();
+    sorted.sort_by(f64::total_cmp);
+    sorted[(sorted.len() - 1) * percent / 100]
+}
+
+fn rounded(nanoseconds: f64) -> String {
+    if nanoseconds < 100.0 {
+        format!("{nanoseconds:.1}")
+    } else {
+        format!("{nanoseconds:.0}")
+    }
+}
+
+fn listed(values: impl Iterator<Item = String>) -> String {
+    values.collect::<Vec<_>>().join(", ")
+}
+
+/// Under callgrind: `valgrind --tool=callgrind --toggle-collect='rushhopper_*'` counts the library alone.
+fn repeat(name: &str, n: &str) -> Result<(), String> {
+    let kind = named(name)?;
+    let n: usize = n.parse().map_err(|_| format!("{n} is no number of replicas"))?;
+    if !(3..=15).contains(&n) {
+        return Err("the scripts want 3 to 15 replicas".to_string());
+    }
+    let fill = if kind.name == "play" { PLAYED } else { HALF };
+    let mut batch = Batch::of(case(kind, (n, 64, fill)));
+    let rounds = if kind.name == "play" { 10 } else { 100 };
+    let calls: usize = (0..rounds).map(|_| batch.repeat(Side::Library)).sum();
+    println!("{calls} calls");
+    Ok(())
+}

@@ -1,0 +1,258 @@
+//! What the benchmark measures: each call on the tables of a scripted run.
+
+use crate::call::{Call, Done};
+use crate::numbers::{Numbers, Sort};
+use crate::refusal::Refusal;
+use crate::rules::{Advanced, Ran, Stop, Submitted};
+use crate::script::{order, Fill, Script};
+use crate::tables::{Tables, ONE, ZERO};
+
+pub enum Work {
+    FillStrip {
+        start: usize,
+    },
+    Call(Call),
+    /// Lent its one record.
+    Crash {
+        who: usize,
+    },
+    Play {
+        file: Vec<u8>,
+    },
+}
+
+pub type Answered = Result<Done, Refusal>;
+
+/// A call that is ready to be made.
+pub struct Case {
+    pub name: String,
+    pub numbers: Numbers,
+    /// The tables before the call.
+    pub tables: Tables,
+    pub work: Work,
+    /// Whether the call did what it is measured for.
+    pub does: fn(&Answered) -> bool,
+}
+
+/// A kind of case. `--callgrind` takes its name; the tables of measurements show its words.
+pub struct Kind {
+    pub name: &'static str,
+    pub words: &'static str,
+    prepare: fn(&Numbers, Fill) -> (Script, Work),
+    does: fn(&Answered) -> bool,
+}
+
+impl Kind {
+    pub fn named(name: &str) -> Option<&'static Kind> {
+        KINDS.iter().find(|kind| kind.name == name)
+    }
+
+    pub fn case(&self, numbers: &Numbers, fill: Fill) -> Case {
+        let (Script { tables, .. }, work) = (self.prepare)(numbers, fill);
+        let name = format!("{}, {numbers:?}, {fill:?}", self.name);
+        Case { name, numbers: *numbers, tables, work, does: self.does }
+    }
+}
+
+const fn kind(
+    name: &'static str,
+    words: &'static str,
+    prepare: fn(&Numbers, Fill) -> (Script, Work),
+    does: fn(&Answered) -> bool,
+) -> Kind {
+    Kind { name, words, prepare, does }
+}
+
+/// The refused submit shows what a step costs before its own rule: the boundary and refusals 3, 2, 4, 5.
+pub static KINDS: [Kind; 19] = [
+    kind("fill-strip", "fill_strip", fill_strip, |_| true),
+    kind("open", "open", open, |did| matches!(did, Ok(Done::Opened(_)))),
+    kind("submit-blank", "submit, blank tag (refused)", submit_blank, |did| *did == Err(Refusal::BlankTag)),
+    kind("submit-new", "submit, new tag", submit_new, |did| *did == Ok(Done::Submitted(Submitted::New))),
+    kind("submit-known", "submit, known tag", submit_known, |did| {
+        *did == Ok(Done::Submitted(Submitted::Known))
+    }),
+    kind("relay", "relay", relay, |did| *did == Ok(Done::Relayed)),
+    kind("begin", "begin", begin, |did| matches!(did, Ok(Done::Begun(_)))),
+    kind("hear-proposal", "hear, proposal", hear_proposal, |did| *did == Ok(Done::Heard)),
+    kind("hear-state", "hear, state", hear_state, |did| *did == Ok(Done::Heard)),
+    kind("hear-vote", "hear, vote", hear_vote, |did| *did == Ok(Done::Heard)),
+    kind("exchange", "advance, exchange, one tag heard", exchange, |did| {
+        *did == Ok(Done::Advanced(Advanced::Exchanged(ONE)))
+    }),
+    kind("exchange-apart", "advance, exchange, n tags heard", exchange_apart, |did| {
+        *did == Ok(Done::Advanced(Advanced::Exchanged(ZERO)))
+    }),
+    kind("state", "advance, state round", state, |did| *did == Ok(Done::Advanced(Advanced::Voted(ONE)))),
+    kind("vote-close", "advance, vote round, closing", vote_close, |did| {
+        matches!(did, Ok(Done::Advanced(Advanced::ClosedWith(_))))
+    }),
+    kind("vote-coin", "advance, vote round, going on by coin", vote_coin, |did| {
+        matches!(did, Ok(Done::Advanced(Advanced::NextByCoin(_))))
+    }),
+    kind("find", "advance, find round", find, |did| matches!(did, Ok(Done::Advanced(Advanced::Found(_))))),
+    kind("run-on", "run on, a whole slot", run_on, |did| {
+        *did == Ok(Done::RanOn(Ran { advances: 3, stop: Stop::Closed }))
+    }),
+    kind("crash", "crash", crash, |_| true),
+    kind("play", "play, the step file of such a run", play, |_| true),
+];
+
+/// From another start than the script's, so that cells change.
+fn fill_strip(numbers: &Numbers, fill: Fill) -> (Script, Work) {
+    (Script::filled(numbers, fill), Work::FillStrip { start: 100 })
+}
+
+fn open(numbers: &Numbers, fill: Fill) -> (Script, Work) {
+    (Script::filled(numbers, fill), Work::Call(Call::Open { plan: *numbers, start: 100 }))
+}
+
+fn submit_blank(numbers: &Numbers, fill: Fill) -> (Script, Work) {
+    (Script::filled(numbers, fill), Work::Call(Call::Submit { who: 1, tag: 0 }))
+}
+
+fn submit_new(numbers: &Numbers, fill: Fill) -> (Script, Work) {
+    let call = Call::Submit { who: 1, tag: order(fill.known + 1) };
+    (Script::filled(numbers, fill), Work::Call(call))
+}
+
+fn submit_known(numbers: &Numbers, fill: Fill) -> (Script, Work) {
+    let call = Call::Submit { who: 1, tag: order(fill.known) };
+    (Script::unrelayed(numbers, fill), Work::Call(call))
+}
+
+fn relay(numbers: &Numbers, fill: Fill) -> (Script, Work) {
+    let call = Call::Relay { who: 1, tag: order(fill.known) };
+    (Script::unrelayed(numbers, fill), Work::Call(call))
+}
+
+fn begin(numbers: &Numbers, fill: Fill) -> (Script, Work) {
+    (Script::filled(numbers, fill), Work::Call(Call::Begin { who: 0 }))
+}
+
+fn hear(numbers: &Numbers, fill: Fill, sort: Sort) -> (Script, Work) {
+    let mut script = Script::filled(numbers, fill);
+    script.send_up_to(sort);
+    let call = script.hearing(0, 1, sort);
+    (script, Work::Call(call))
+}
+
+fn hear_proposal(numbers: &Numbers, fill: Fill) -> (Script, Work) {
+    hear(numbers, fill, Sort::Proposal)
+}
+
+fn hear_state(numbers: &Numbers, fill: Fill) -> (Script, Work) {
+    hear(numbers, fill, Sort::State)
+}
+
+fn hear_vote(numbers: &Numbers, fill: Fill) -> (Script, Work) {
+    hear(numbers, fill, Sort::Vote)
+}
+
+/// Replica 0 advances with all n messages of the sort heard.
+fn advance_on(mut script: Script, sort: Sort) -> (Script, Work) {
+    script.send_up_to(sort);
+    script.all_hear(sort);
+    (script, Work::Call(Call::Advance { who: 0 }))
+}
+
+fn exchange(numbers: &Numbers, fill: Fill) -> (Script, Work) {
+    advance_on(Script::filled(numbers, fill), Sort::Proposal)
+}
+
+fn exchange_apart(numbers: &Numbers, fill: Fill) -> (Script, Work) {
+    let mut script = Script::filled(numbers, fill);
+    script.share_apart();
+    advance_on(script, Sort::Proposal)
+}
+
+fn state(numbers: &Numbers, fill: Fill) -> (Script, Work) {
+    advance_on(Script::filled(numbers, fill), Sort::State)
+}
+
+fn vote_close(numbers: &Numbers, fill: Fill) -> (Script, Work) {
+    advance_on(Script::filled(numbers, fill), Sort::Vote)
+}
+
+/// Replica 0 hears of its own camp alone, the others of both: one state 1 among zeros. Each then hears a quorum of
+/// states with both values in it, so that all vote `?`.
+fn vote_coin(numbers: &Numbers, fill: Fill) -> (Script, Work) {
+    let (n, others) = (numbers.n, numbers.quorum() - 1);
+    let mut script = Script::filled(numbers, fill);
+    script.share_in_camps();
+    script.begin();
+    script.hear(0, 1..=others, Sort::Proposal);
+    for who in 1..n {
+        script.hear(who, (0..n).rev().filter(|&sender| sender != who).take(others), Sort::Proposal);
+    }
+    script.advance(0..n);
+    for who in 0..n {
+        script.hear(who, (0..n).filter(|&sender| sender != who).take(others), Sort::State);
+    }
+    script.advance(0..n);
+    script.all_hear(Sort::Vote);
+    (script, Work::Call(Call::Advance { who: 0 }))
+}
+
+/// The larger camp decides on 1; the last replica learns of it from states and votes, and of the tag only later.
+fn find(numbers: &Numbers, fill: Fill) -> (Script, Work) {
+    let (camp, last) = (0..numbers.majority(), numbers.n - 1);
+    let mut script = Script::filled(numbers, fill);
+    script.share_in_camps();
+    script.begin();
+    camp.clone().for_each(|who| script.hear(who, camp.clone(), Sort::Proposal));
+    let late = last + 1 - numbers.quorum();
+    script.hear(last, late..last, Sort::Proposal);
+    script.advance(camp.clone().chain([last]));
+    camp.clone().chain([last]).for_each(|who| script.hear(who, camp.clone(), Sort::State));
+    script.advance(camp.clone().chain([last]));
+    script.hear(last, camp, Sort::Vote);
+    script.advance([last]);
+    script.hear(last, 0..late, Sort::Proposal);
+    (script, Work::Call(Call::Advance { who: last }))
+}
+
+/// The others go ahead without replica 0, which then hears all at once.
+fn run_on(numbers: &Numbers, fill: Fill) -> (Script, Work) {
+    let others = 1..numbers.n;
+    let mut script = Script::filled(numbers, fill);
+    script.begin();
+    for sort in [Sort::Proposal, Sort::State] {
+        others.clone().for_each(|who| script.hear(who, others.clone(), sort));
+        script.advance(others.clone());
+    }
+    for sort in [Sort::Proposal, Sort::State, Sort::Vote] {
+        script.hear(0, others.clone(), sort);
+    }
+    (script, Work::Call(Call::RunOn { who: 0 }))
+}
+
+fn crash(numbers: &Numbers, fill: Fill) -> (Script, Work) {
+    (Script::filled(numbers, fill), Work::Crash { who: 0 })
+}
+
+/// The file of the whole script, which the opening in it starts anew.
+fn play(numbers: &Numbers, fill: Fill) -> (Script, Work) {
+    let script = Script::filled(numbers, fill);
+    let file = script.file.clone();
+    (script, Work::Play { file })
+}
+
+#[cfg(test)]
+mod tests {
+    use super::*;
+
+    #[test]
+    fn calls_do_what_they_are_measured_for() {
+        for n in 3..=15 {
+            let numbers = Numbers { n, f: (n - 1) / 2, slots: 4, phases: 2, room: 32 };
+            for kind in &KINDS {
+                let Case { name, mut tables, work, does, .. } =
+                    kind.case(&numbers, Fill { known: 4, closed: 2 });
+                if let Work::Call(call) = work {
+                    assert!(does(&call.make(&numbers, &mut tables)), "{name}");
+                }
+            }
+        }
+    }
+}
