@@ -1,5 +1,5 @@
 -- What the functions on messages ask: a message of the run, and tables as long as the run needs.
-use Prim.Native.Nat.{ℕ, _≤_, _<_}
+use Prim.Native.Nat.{ℕ, _≤_}
 use mathlib.Core.Bool.{false}
 use mathlib.Core.List.{List}
 use lib.ListN.{length}

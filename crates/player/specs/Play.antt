@@ -3,7 +3,6 @@ use Prim.Native.Nat.{ℕ, zero, suc}
 use mathlib.Core.Bool.{Bool, true, false, not, _&&_, _||_}
 use mathlib.Core.List.{List}
 use lib.Dec.{ltb}
-use lib.ListN.{length}
 use Rattle.model.specs.declared.Numbers.{Numbers}
 use Rattle.model.specs.declared.Refusal.the-variants.{ShortTable, UnknownKind, CutRecord, OutOfPlace}
 use Rattle.model.specs.declared.Call.{Call}
@@ -16,7 +15,6 @@ use Rattle.tables.specs.Layout.{Tables}
 use Rattle.tables.specs.Calls.{OpenOutcome, open-outcome, called}
 use Rattle.reader.specs.declared.Found.{Found}
 use Rattle.reader.specs.declared.Found.the-variants.{End, Unknown, Cut, Made}
-use Rattle.reader.specs.declared.Read.{Read}
 use Rattle.player.specs.declared.Player.{Player}
 use Rattle.player.specs.declared.Said.{Said}
 use Rattle.player.specs.declared.Said.the-variants.{Nothing, Stopped, Answered}

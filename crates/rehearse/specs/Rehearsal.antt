@@ -3,7 +3,7 @@ use Prim.Native.Nat.{ℕ}
 use mathlib.Core.List.{List}
 use lib.ListN.{replicate}
 use Rattle.model.specs.declared.Numbers.{Numbers}
-use Rattle.tables.specs.Layout.{Tables, records-need, proposals-need, ballots-need, heard-need, logs-need}
+use Rattle.tables.specs.Layout.{Tables}
 use Rattle.session.specs.Reported.{report}
 
 -- "with tables for 7 controllers, 16 slots, 8 phases and 64 tags; larger openings get refusal 2"

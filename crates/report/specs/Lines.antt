@@ -1,6 +1,6 @@
 -- Document 01, "Rehearsal program": the lines of its report. "Single spaces, none at line ends."
 use Prim.Native.Nat.{ℕ, zero, suc}
-use mathlib.Core.Bool.{Bool, true, false, not}
+use mathlib.Core.Bool.{Bool, not}
 use mathlib.Core.List.{List, [], _++_}
 use lib.Dec.{eqb}
 use Rattle.model.specs.declared.Numbers.{Numbers}

@@ -1,5 +1,5 @@
 -- A lent buffer that is written from its front: what does not fit is left out.
-use Prim.Native.Nat.{ℕ, zero, suc, _+_}
+use Prim.Native.Nat.{ℕ, _+_}
 use mathlib.Core.List.{List, [], _∷_}
 use lib.Dec.{ltb}
 use lib.ListN.{length, set as store-at}

@@ -1,8 +1,7 @@
 -- An answer's number and values, from what the call itself promises.
 use Prim.Native.Nat.{ℕ}
-use mathlib.Core.Bool.{Bool}
 use mathlib.Core.List.{List}
-use mathlib.Core.Path.{_≡_, sym, _∙_, ap}
+use mathlib.Core.Path.{_≡_, _∙_, ap}
 use Rattle.model.specs.declared.Numbers.{Numbers}
 use Rattle.model.specs.declared.Answer.{Answer}
 use Rattle.model.specs.Answers.{answer-number}

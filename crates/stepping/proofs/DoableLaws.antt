@@ -10,7 +10,6 @@ use lib.ListN.{length, take}
 use lib.Seq.{length-take-le}
 use borrow.Author.Tests.{leb-true, ltb-true, le-leb, lt-ltb, not-true}
 use Rattle.model.specs.declared.Numbers.{Numbers}
-use Rattle.model.specs.declared.ReplicaId.{ReplicaId}
 use Rattle.model.specs.declared.Round.{Round}
 use Rattle.model.specs.declared.Round.the-variants.{Idle, Exchange, State, Vote, Find}
 use Rattle.model.specs.declared.Sort.{Sort}
@@ -19,29 +18,28 @@ use Rattle.model.specs.declared.Word.{Word}
 use Rattle.model.specs.declared.Word.the-variants.{Say, Unsure}
 use Rattle.model.specs.declared.Refusal.{Refusal}
 use Rattle.model.specs.declared.Effect.{Effect}
-use Rattle.model.specs.declared.Effect.the-variants.{Refuse, Hold, Send, Close, Seek, Receive, Halt}
+use Rattle.model.specs.declared.Effect.the-variants.{Refuse, Send}
 use Rattle.model.specs.declared.Step.{Step}
 use Rattle.model.specs.declared.Step.the-variants.{Submit, Relay, Begin, Hear, Advance, Crash}
-use Rattle.model.specs.Tests.{if, listed}
+use Rattle.model.specs.Tests.{listed}
 use Rattle.model.specs.Limits.{limited}
-use Rattle.model.specs.Rack.{Replica, fresh-replica}
+use Rattle.model.specs.Rack.{Replica}
 use Rattle.model.specs.Rules.{majority-tag, vote-of, next-state, phase-in, decide}
 use Rattle.model.specs.History.{acting}
 use Rattle.model.proofs.Branches.{if-true}
 use Rattle.model.proofs.Cases.{clash, and-both, or-left, if-ind, require-ind, never}
-use Rattle.safety.specs.Comes.{Comes, refused, ruled, ByRule, by-submit, by-relay, by-begin, by-hear, by-exchange, by-state, by-outcome-0, by-outcome-1, by-seek, by-next-phase, by-find, by-crash, Voting, Acts, comes}
+use Rattle.safety.specs.Comes.{Comes, refused, ruled, ByRule, by-submit, by-relay, by-begin, by-hear, by-exchange, by-state, by-outcome-0, by-outcome-1, by-seek, by-next-phase, by-find, by-crash, comes}
 use Rattle.tables.specs.Layout.{Tables, record-at}
 use Rattle.tables.specs.Bounds.{bounds, is-long}
-use Rattle.tables.specs.Addresses.{Within, phase-bounds}
 use Rattle.tables.specs.View.{below, round-in, replica-at, view}
 use Rattle.tables.specs.Write.{word-number}
 use Rattle.tables.specs.Checks.{lengths, long, misplaced, any-spoiled, checked}
 use Rattle.tables.specs.Calls.{crash-judged, judge}
 use Rattle.messages.specs.Reach.{Fitting}
 use Rattle.orders.specs.Room.{Storable}
-use Rattle.advance.proofs.RuleLaws.{slot-low, state-phase, vote-phase}
+use Rattle.advance.proofs.RuleLaws.{slot-low, state-phase}
 use Rattle.judging.proofs.GateLaws.{stands, ready}
-use Rattle.writing.specs.Doable.{Ready, Placed, Doable}
+use Rattle.writing.specs.Doable.{Ready, Doable}
 
 say-fits : (b : Bool) → word-number (Say b) ≤ 3
 say-fits true = omega arith

@@ -1,8 +1,8 @@
 -- Each effect is carried out: what was stored is what `write` says.
-use Prim.Native.Nat.{ℕ, _+_, _*_, _^_, _≤_, _<_}
+use Prim.Native.Nat.{ℕ}
 use native.Mathlib.Omega.{arith}
 use mathlib.Core.List.{List}
-use mathlib.Core.Path.{_≡_, refl, sym, subst, _∙_}
+use mathlib.Core.Path.{_≡_, refl, sym, subst}
 use lib.ListN.{getD, set}
 use Rattle.model.specs.declared.Numbers.{Numbers}
 use Rattle.model.specs.declared.Round.the-variants.{Find}
@@ -11,7 +11,6 @@ use Rattle.model.specs.declared.Word.{Word}
 use Rattle.model.specs.declared.Refusal.{Refusal}
 use Rattle.model.specs.declared.Effect.{Effect}
 use Rattle.model.specs.declared.Effect.the-variants.{Refuse, Hold, Send, Close, Seek, Receive, Halt}
-use Rattle.model.specs.declared.Answer.{Answer}
 use Rattle.model.specs.declared.Answer.the-variants.{Refused, Done}
 use Rattle.model.specs.History.{told}
 use Rattle.tables.specs.Layout.{Tables, with-bit, record-at, record-stored, heard-cell}

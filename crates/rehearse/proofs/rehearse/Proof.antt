@@ -3,51 +3,37 @@ use Rattle.rehearse.specs.Rehearsal.{blank, rehearsal}
 use borrow.Author.Needs.{needs}
 use Rattle.rehearse.proofs.rehearse.Statement.{statement}
 use Rattle.rehearse.proofs.rehearse.Tie as tie
-use Rattle.rehearse.proofs.rehearse.Reads as reads
-use Rattle.rehearse.proofs.rehearse.Lts as lts
-use Rattle.session.proofs.play.Reads as play-reads
 
--- src/main.rt:37:9
 slice-aggregate-play : tie.Need-slice-aggregate-play
 slice-aggregate-play c = search needs
 
--- src/main.rt:39:9
 slice-aggregate-play-2 : tie.Need-slice-aggregate-play-2
 slice-aggregate-play-2 c = search needs
 
--- src/main.rt:40:9
 slice-aggregate-play-3 : tie.Need-slice-aggregate-play-3
 slice-aggregate-play-3 c = search needs
 
--- src/main.rt:41:9
 slice-aggregate-play-4 : tie.Need-slice-aggregate-play-4
 slice-aggregate-play-4 c = search needs
 
--- src/main.rt:42:9
 slice-aggregate-play-5 : tie.Need-slice-aggregate-play-5
 slice-aggregate-play-5 c = search needs
 
--- src/main.rt:43:9
 slice-aggregate-play-6 : tie.Need-slice-aggregate-play-6
 slice-aggregate-play-6 c = search needs
 
--- src/main.rt:44:9
 slice-aggregate-play-7 : tie.Need-slice-aggregate-play-7
 slice-aggregate-play-7 c = search needs
 
--- src/main.rt:45:9
 slice-aggregate-play-8 : tie.Need-slice-aggregate-play-8
 slice-aggregate-play-8 c = search needs
 
--- src/main.rt:33:9
 play-requires : tie.Need-play-requires
 play-requires c κs = search needs
 
--- src/main.rt:13:1
 same-length : tie.Need-same-length
 same-length c = search needs
 
--- src/main.rt:13:1
 returns : tie.Need-returns
 unfolding rehearsal blank
 returns c = let e = c .before .before .before .before .before .before .before .before .before .before .play .ensures .1 in (counted _ _ e, e)

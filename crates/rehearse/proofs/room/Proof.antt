@@ -3,10 +3,7 @@ use lib.ListN.{length-replicate}
 use mathlib.Core.Path.{sym}
 use Rattle.rehearse.proofs.room.Statement.{statement}
 use Rattle.rehearse.proofs.room.Tie as tie
-use Rattle.rehearse.proofs.room.Reads as reads
-use Rattle.rehearse.proofs.room.Lts as lts
 
--- src/main.rt:51:1
 returns : tie.Need-returns
 returns c = sym (length-replicate {0} {A = ℕ} 1600000 0)
 

@@ -5,34 +5,25 @@ use native.Mathlib.Omega.{arith}
 use borrow.Author.Needs.{needs}
 use Rattle.report.proofs.benches.entry_at.Statement.{statement}
 use Rattle.report.proofs.benches.entry_at.Tie as tie
-use Rattle.report.proofs.benches.entry_at.Reads as reads
-use Rattle.report.proofs.benches.entry_at.Lts as lts
 
--- src/benches.rt:29:9
 returns : tie.Need-returns
 returns c = log-past (c .before .before .args .numbers) (c .before .before .args .logs .now) _ _ (c .if1 .taken)
 
--- src/benches.rt:31:13
 mul-i : tie.Need-mul-i
 mul-i c = omega (arith, cell-fits (c .before .before .before .args .numbers) _ (c .before .before .before .pre .0) (c .before .before .before .pre .1))
 
--- src/benches.rt:31:13
 add-i : tie.Need-add-i
 add-i c = let z = c .before .if1 .left in let b = c .before .before .before .pre .0 in let k = b .slots-few in omega (arith, cell-fits (c .before .before .before .args .numbers) _ (c .before .before .before .pre .0) (c .before .before .before .pre .1))
 
--- src/benches.rt:33:16
 mul-result : tie.Need-mul-result
 mul-result c = search needs
 
--- src/benches.rt:33:16
 shared-slice-read-result : tie.Need-shared-slice-read-result
 shared-slice-read-result c = search needs
 
--- src/benches.rt:33:9
 returns-2 : tie.Need-returns-2
 returns-2 c = log-read (c .before .before .before .before .before .args .numbers) (c .before .before .before .before .before .args .logs .now) _ _ (c .before .before .before .if1 .left)
 
--- src/benches.rt:24:1
 returns-3 : tie.Need-returns-3
 returns-3 c = past-end (c .before .before .before .before .args .logs .now) _ (c .if2 .left) ∙ log-read (c .before .before .before .before .args .numbers) (c .before .before .before .before .args .logs .now) _ _ (c .before .before .if1 .left)
 

@@ -1,81 +1,56 @@
 use Rattle.report.proofs.BenchLaws.{bench}
-use native.Mathlib.Omega.{arith}
 use borrow.Author.Needs.{needs}
 use Rattle.report.proofs.benches.put_bench.Statement.{statement}
 use Rattle.report.proofs.benches.put_bench.Tie as tie
-use Rattle.report.proofs.benches.put_bench.Reads as reads
-use Rattle.report.proofs.benches.put_bench.Lts as lts
-use Rattle.report.proofs.benches.put_entries.Reads as put-entries-reads
-use Rattle.report.proofs.benches.put_light.Reads as put-light-reads
-use Rattle.report.proofs.benches.word_at.Reads as word-at-reads
-use Rattle.report.proofs.pieces.put_decimal.Reads as put-decimal-reads
-use Rattle.report.proofs.pieces.put_text.Reads as put-text-reads
 
--- src/benches.rt:89:36
 mul-word-at : tie.Need-mul-word-at
 mul-word-at c = search needs
 
--- src/benches.rt:89:9
 word-at-requires : tie.Need-word-at-requires
 word-at-requires c κs = search needs
 
--- src/benches.rt:90:35
 mul-word-at-2 : tie.Need-mul-word-at-2
 mul-word-at-2 c = search needs
 
--- src/benches.rt:90:35
 add-word-at : tie.Need-add-word-at
 add-word-at c = search needs
 
--- src/benches.rt:90:9
 word-at-requires-2 : tie.Need-word-at-requires-2
 word-at-requires-2 c κs = search needs
 
--- src/benches.rt:91:26
 slice-aggregate-put-text : tie.Need-slice-aggregate-put-text
 slice-aggregate-put-text c = search needs
 
--- src/benches.rt:91:9
 put-text-requires : tie.Need-put-text-requires
 put-text-requires c κs = search needs
 
--- src/benches.rt:92:9
 put-decimal-requires : tie.Need-put-decimal-requires
 put-decimal-requires c κs = search needs
 
--- src/benches.rt:93:9
 put-light-requires : tie.Need-put-light-requires
 put-light-requires c κs = search needs
 
--- src/benches.rt:94:29
 cast-put-decimal : tie.Need-cast-put-decimal
 cast-put-decimal c = search needs
 
--- src/benches.rt:94:9
 put-decimal-requires-2 : tie.Need-put-decimal-requires-2
 put-decimal-requires-2 c κs = search needs
 
--- src/benches.rt:95:43
 cast-put-entries : tie.Need-cast-put-entries
 cast-put-entries c = search needs
 
--- src/benches.rt:95:9
 put-entries-requires : tie.Need-put-entries-requires
 put-entries-requires c κs = search needs
 
--- src/benches.rt:96:14
 slice-aggregate-put-text-2 : tie.Need-slice-aggregate-put-text-2
 slice-aggregate-put-text-2 c = search needs
 
--- src/benches.rt:96:5
 put-text-requires-2 : tie.Need-put-text-requires-2
 put-text-requires-2 c κs = search needs
 
--- src/benches.rt:78:1
 same-length : tie.Need-same-length
 same-length c = search needs
 
--- src/benches.rt:78:1
 returns : tie.Need-returns
 returns c = bench _ (c .before .before .before .before .before .before .before .before .before .before .before .before .before .before .before .before .before .before .before .before .before .before .before .before .before .before .before .before .before .before .before .args .numbers) (c .before .before .before .before .before .before .before .before .before .before .before .before .before .before .before .before .before .before .before .before .before .before .before .before .before .before .before .before .before .before .before .args .records .now) (c .before .before .before .before .before .before .before .before .before .before .before .before .before .before .before .before .before .before .before .before .before .before .before .before .before .before .before .before .before .before .before .args .logs .now) _ _ _ (c .before .before .before .before .before .before .before .before .before .before .before .before .before .before .before .before .before .before .before .before .before .before .before .before .before .before .before .word-at .ensures) (c .before .before .before .before .before .before .before .before .before .before .before .before .before .before .before .before .before .before .before .before .before .before .before .before .before .before .word-at2 .ensures) (c .before .before .before .before .before .before .before .before .before .before .before .before .before .before .before .before .before .before .before .before .before .before .before .put-text .ensures) (c .before .before .before .before .before .before .before .before .before .before .before .before .before .before .before .before .before .before .before .put-decimal .ensures) (c .before .before .before .before .before .before .before .before .before .before .before .before .before .before .before .put-light .ensures) (c .before .before .before .before .before .before .before .before .before .before .before .put-decimal2 .ensures) (c .before .before .before .before .before .before .before .put-entries .ensures) (c .before .before .put-text2 .ensures)
 

@@ -8,9 +8,6 @@ use Rattle.report.specs.Lines.{benches-in}
 use Rattle.report.proofs.BenchLaws.{no-bench, bench-more, all-benches}
 use Rattle.report.proofs.benches.put_benches.Statement.{statement}
 use Rattle.report.proofs.benches.put_benches.Tie as tie
-use Rattle.report.proofs.benches.put_benches.Reads as reads
-use Rattle.report.proofs.benches.put_benches.Lts as lts
-use Rattle.report.proofs.benches.put_bench.Reads as put-bench-reads
 
 abbrev Inv-loop : tie.InvT-loop
 Inv-loop numbers records logs report₀ at end₀ c₀ report end c = (c ≤ numbers .n) × (length report ≡ length report₀) × (page report end ≡ print (page report₀ at) (benches-in numbers records logs c))
@@ -18,31 +15,24 @@ Inv-loop numbers records logs report₀ at end₀ c₀ report end c = (c ≤ num
 abbrev μ-loop : tie.MeasureT-loop
 μ-loop numbers records logs report₀ at end₀ c₀ report end c = numbers .n - c
 
--- src/benches.rt:111:5
 loop-holds : tie.Need-loop-holds Inv-loop μ-loop
 loop-holds c = (omega arith, refl, no-bench _ _ _ _)
 
--- src/benches.rt:112:9
 put-bench-requires : tie.Need-put-bench-requires Inv-loop μ-loop
 put-bench-requires c κs = search needs
 
--- src/benches.rt:113:9
 add-c : tie.Need-add-c Inv-loop μ-loop
 add-c c = search needs
 
--- src/benches.rt:111:5
 loop-less : tie.Need-loop-less Inv-loop μ-loop
 loop-less c = omega arith
 
--- src/benches.rt:111:5
 loop-again : tie.Need-loop-again Inv-loop μ-loop
 loop-again c = (omega arith, c .before .before .put-bench .kept .1 .1 .1 .1 .0 ∙ c .before .before .before .before .before .before .loop .inv .1, bench-more _ _ _ _ _ (c .before .before .before .before .before .before .loop .inv .2) (c .before .before .put-bench .ensures))
 
--- src/benches.rt:99:1
 same-length : tie.Need-same-length Inv-loop μ-loop
 same-length c = c .before .before .loop .inv .1
 
--- src/benches.rt:99:1
 returns : tie.Need-returns Inv-loop μ-loop
 returns c = all-benches _ _ _ _ _ (let e : c .before .before .loop .c ≡ c .before .before .before .before .before .before .args .numbers .n = omega arith in e) (c .before .before .loop .inv .2)
 

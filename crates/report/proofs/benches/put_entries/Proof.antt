@@ -9,10 +9,6 @@ use Rattle.report.specs.Lines.{entries-text}
 use Rattle.report.proofs.BenchLaws.{no-entry, entry-more, all-entries}
 use Rattle.report.proofs.benches.put_entries.Statement.{statement}
 use Rattle.report.proofs.benches.put_entries.Tie as tie
-use Rattle.report.proofs.benches.put_entries.Reads as reads
-use Rattle.report.proofs.benches.put_entries.Lts as lts
-use Rattle.report.proofs.benches.entry_at.Reads as entry-at-reads
-use Rattle.report.proofs.benches.put_entry.Reads as put-entry-reads
 
 abbrev Inv-loop : tie.InvT-loop
 Inv-loop numbers c closed logs report₀ at end₀ s₀ report end s = (s ≤ closed) × (length report ≡ length report₀) × (page report end ≡ print (page report₀ at) (entries-text s (log-in numbers logs c)))
@@ -20,35 +16,27 @@ Inv-loop numbers c closed logs report₀ at end₀ s₀ report end s = (s ≤ cl
 abbrev μ-loop : tie.MeasureT-loop
 μ-loop numbers c closed logs report₀ at end₀ s₀ report end s = closed - s
 
--- src/benches.rt:70:5
 loop-holds : tie.Need-loop-holds Inv-loop μ-loop
 loop-holds c = (omega arith, refl, no-entry _ _)
 
--- src/benches.rt:71:13
 entry-at-requires : tie.Need-entry-at-requires Inv-loop μ-loop
 entry-at-requires c κs = search needs
 
--- src/benches.rt:72:9
 put-entry-requires : tie.Need-put-entry-requires Inv-loop μ-loop
 put-entry-requires c κs = search needs
 
--- src/benches.rt:73:9
 add-s : tie.Need-add-s Inv-loop μ-loop
 add-s c = search needs
 
--- src/benches.rt:70:5
 loop-less : tie.Need-loop-less Inv-loop μ-loop
 loop-less c = omega arith
 
--- src/benches.rt:70:5
 loop-again : tie.Need-loop-again Inv-loop μ-loop
 loop-again c = (omega arith, c .before .before .put-entry .kept .1 .0 ∙ c .before .before .before .before .before .before .loop .inv .1, entry-more _ _ _ _ (c .before .before .before .before .before .before .loop .inv .2) (c .before .before .before .before .entry-at .ensures) (c .before .before .put-entry .ensures))
 
--- src/benches.rt:57:1
 same-length : tie.Need-same-length Inv-loop μ-loop
 same-length c = c .before .loop .inv .1
 
--- src/benches.rt:57:1
 returns : tie.Need-returns Inv-loop μ-loop
 returns c = all-entries _ _ _ _ (let e : c .before .loop .s ≡ c .before .before .before .before .args .closed = omega arith in e) (c .before .loop .inv .2)
 

@@ -2,39 +2,28 @@ use Rattle.report.proofs.BenchLaws.{lit, dark}
 use borrow.Author.Needs.{needs}
 use Rattle.report.proofs.benches.put_light.Statement.{statement}
 use Rattle.report.proofs.benches.put_light.Tie as tie
-use Rattle.report.proofs.benches.put_light.Reads as reads
-use Rattle.report.proofs.benches.put_light.Lts as lts
-use Rattle.report.proofs.pieces.put_text.Reads as put-text-reads
 
--- src/benches.rt:42:25
 slice-aggregate-put-text : tie.Need-slice-aggregate-put-text
 slice-aggregate-put-text c = search needs
 
--- src/benches.rt:42:9
 put-text-requires : tie.Need-put-text-requires
 put-text-requires c κs = search needs
 
--- src/benches.rt:42:9
 same-length : tie.Need-same-length
 same-length c = search needs
 
--- src/benches.rt:42:9
 returns : tie.Need-returns
 returns c = lit _ _ (c .before .before .before .before .before .if1 .taken) (c .before .before .put-text .ensures)
 
--- src/benches.rt:44:14
 slice-aggregate-put-text-2 : tie.Need-slice-aggregate-put-text-2
 slice-aggregate-put-text-2 c = search needs
 
--- src/benches.rt:44:5
 put-text-requires-2 : tie.Need-put-text-requires-2
 put-text-requires-2 c κs = search needs
 
--- src/benches.rt:38:1
 same-length-2 : tie.Need-same-length-2
 same-length-2 c = search needs
 
--- src/benches.rt:38:1
 returns-2 : tie.Need-returns-2
 returns-2 c = dark _ _ (c .before .before .before .before .before .if1 .left) (c .before .before .put-text2 .ensures)
 

@@ -2,22 +2,16 @@ use Rattle.report.proofs.BenchLaws.{past-end}
 use borrow.Author.Needs.{needs}
 use Rattle.report.proofs.benches.word_at.Statement.{statement}
 use Rattle.report.proofs.benches.word_at.Tie as tie
-use Rattle.report.proofs.benches.word_at.Reads as reads
-use Rattle.report.proofs.benches.word_at.Lts as lts
 
--- src/benches.rt:19:16
 mul-result : tie.Need-mul-result
 mul-result c = search needs
 
--- src/benches.rt:19:16
 shared-slice-read-result : tie.Need-shared-slice-read-result
 shared-slice-read-result c = search needs
 
--- src/benches.rt:19:9
 returns : tie.Need-returns
 returns c = search needs
 
--- src/benches.rt:15:1
 returns-2 : tie.Need-returns-2
 returns-2 c = past-end (c .before .args .records .now) _ (c .if1 .left)
 

@@ -2,48 +2,34 @@ use Rattle.report.proofs.PageLaws.{then}
 use borrow.Author.Needs.{needs}
 use Rattle.report.proofs.lines.put_opened.Statement.{statement}
 use Rattle.report.proofs.lines.put_opened.Tie as tie
-use Rattle.report.proofs.lines.put_opened.Reads as reads
-use Rattle.report.proofs.lines.put_opened.Lts as lts
-use Rattle.report.proofs.pieces.put_decimal.Reads as put-decimal-reads
-use Rattle.report.proofs.pieces.put_text.Reads as put-text-reads
 
--- src/lines.rt:15:32
 slice-aggregate-put-text : tie.Need-slice-aggregate-put-text
 slice-aggregate-put-text c = search needs
 
--- src/lines.rt:15:9
 put-text-requires : tie.Need-put-text-requires
 put-text-requires c κs = search needs
 
--- src/lines.rt:16:9
 put-decimal-requires : tie.Need-put-decimal-requires
 put-decimal-requires c κs = search needs
 
--- src/lines.rt:17:26
 slice-aggregate-put-text-2 : tie.Need-slice-aggregate-put-text-2
 slice-aggregate-put-text-2 c = search needs
 
--- src/lines.rt:17:9
 put-text-requires-2 : tie.Need-put-text-requires-2
 put-text-requires-2 c κs = search needs
 
--- src/lines.rt:18:9
 put-decimal-requires-2 : tie.Need-put-decimal-requires-2
 put-decimal-requires-2 c κs = search needs
 
--- src/lines.rt:19:14
 slice-aggregate-put-text-3 : tie.Need-slice-aggregate-put-text-3
 slice-aggregate-put-text-3 c = search needs
 
--- src/lines.rt:19:5
 put-text-requires-3 : tie.Need-put-text-requires-3
 put-text-requires-3 c κs = search needs
 
--- src/lines.rt:12:1
 same-length : tie.Need-same-length
 same-length c = search needs
 
--- src/lines.rt:12:1
 returns : tie.Need-returns
 returns c = then _ _ _ (c .before .before .before .before .before .before .before .before .before .before .before .before .before .before .before .before .before .before .before .before .put-text .ensures) (then _ _ _ (c .before .before .before .before .before .before .before .before .before .before .before .before .before .before .before .before .put-decimal .ensures) (then _ _ _ (c .before .before .before .before .before .before .before .before .before .before .before .put-text2 .ensures) (then _ _ _ (c .before .before .before .before .before .before .before .put-decimal2 .ensures) (c .before .before .put-text3 .ensures))))
 

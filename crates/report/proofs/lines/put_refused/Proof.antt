@@ -5,53 +5,37 @@ use Rattle.report.proofs.PageLaws.{then}
 use borrow.Author.Needs.{needs}
 use Rattle.report.proofs.lines.put_refused.Statement.{statement}
 use Rattle.report.proofs.lines.put_refused.Tie as tie
-use Rattle.report.proofs.lines.put_refused.Reads as reads
-use Rattle.report.proofs.lines.put_refused.Lts as lts
-use Rattle.report.proofs.pieces.put_decimal.Reads as put-decimal-reads
-use Rattle.report.proofs.pieces.put_text.Reads as put-text-reads
-use Rattle.rules.proofs.answers.refusal_number.Reads as refusal-number-reads
 
--- src/lines.rt:25:28
 slice-aggregate-put-text : tie.Need-slice-aggregate-put-text
 slice-aggregate-put-text c = search needs
 
--- src/lines.rt:25:9
 put-text-requires : tie.Need-put-text-requires
 put-text-requires c κs = search needs
 
--- src/lines.rt:26:9
 put-decimal-requires : tie.Need-put-decimal-requires
 put-decimal-requires c κs = search needs
 
--- src/lines.rt:27:26
 slice-aggregate-put-text-2 : tie.Need-slice-aggregate-put-text-2
 slice-aggregate-put-text-2 c = search needs
 
--- src/lines.rt:27:9
 put-text-requires-2 : tie.Need-put-text-requires-2
 put-text-requires-2 c κs = search needs
 
--- src/lines.rt:28:31
 refusal-number-requires : tie.Need-refusal-number-requires
 refusal-number-requires c κs = search needs
 
--- src/lines.rt:28:9
 put-decimal-requires-2 : tie.Need-put-decimal-requires-2
 put-decimal-requires-2 c κs = search needs
 
--- src/lines.rt:29:14
 slice-aggregate-put-text-3 : tie.Need-slice-aggregate-put-text-3
 slice-aggregate-put-text-3 c = search needs
 
--- src/lines.rt:29:5
 put-text-requires-3 : tie.Need-put-text-requires-3
 put-text-requires-3 c κs = search needs
 
--- src/lines.rt:22:1
 same-length : tie.Need-same-length
 same-length c = search needs
 
--- src/lines.rt:22:1
 returns : tie.Need-returns
 returns c = then _ _ _ (c .before .before .before .before .before .before .before .before .before .before .before .before .before .before .before .before .before .before .before .before .before .put-text .ensures) (then _ _ _ (c .before .before .before .before .before .before .before .before .before .before .before .before .before .before .before .before .before .put-decimal .ensures) (then _ _ _ (c .before .before .before .before .before .before .before .before .before .before .before .before .put-text2 .ensures) (then _ _ _ (same-text _ _ _ (ap decimal (c .before .before .before .before .before .before .before .before .before .refusal-number .ensures)) (c .before .before .before .before .before .before .before .put-decimal2 .ensures)) (c .before .before .put-text3 .ensures))))
 

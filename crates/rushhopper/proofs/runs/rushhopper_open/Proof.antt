@@ -2,57 +2,40 @@ use Rattle.rushhopper.proofs.AnswerLaws.{opened}
 use borrow.Author.Needs.{needs}
 use Rattle.rushhopper.proofs.runs.rushhopper_open.Statement.{statement}
 use Rattle.rushhopper.proofs.runs.rushhopper_open.Tie as tie
-use Rattle.rushhopper.proofs.runs.rushhopper_open.Reads as reads
-use Rattle.rushhopper.proofs.runs.rushhopper_open.Lts as lts
-use Rattle.opening.proofs.open.Reads as open-reads
-use Rattle.rules.proofs.answers.number_of.Reads as number-of-reads
-use Rattle.rushhopper.proofs.runs.numbers_in.Reads as numbers-in-reads
 
--- src/runs.rt:120:9
 open-requires : tie.Need-open-requires
 open-requires c κs = search needs
 
--- src/runs.rt:133:18
 number-of-requires : tie.Need-number-of-requires
 number-of-requires c κs = search needs
 
--- src/runs.rt:134:18
 numbers-in-requires : tie.Need-numbers-in-requires
 numbers-in-requires c κs = search needs
 
--- src/runs.rt:100:1
 same-length : tie.Need-same-length
 same-length c = search needs
 
--- src/runs.rt:100:1
 same-length-2 : tie.Need-same-length-2
 same-length-2 c = search needs
 
--- src/runs.rt:100:1
 same-length-3 : tie.Need-same-length-3
 same-length-3 c = search needs
 
--- src/runs.rt:100:1
 same-length-4 : tie.Need-same-length-4
 same-length-4 c = search needs
 
--- src/runs.rt:100:1
 same-length-5 : tie.Need-same-length-5
 same-length-5 c = search needs
 
--- src/runs.rt:100:1
 same-length-6 : tie.Need-same-length-6
 same-length-6 c = search needs
 
--- src/runs.rt:100:1
 same-length-7 : tie.Need-same-length-7
 same-length-7 c = search needs
 
--- src/runs.rt:100:1
 same-length-8 : tie.Need-same-length-8
 same-length-8 c = search needs
 
--- src/runs.rt:100:1
 returns : tie.Need-returns
 returns c = opened (c .before .number-of .ensures) (c .numbers-in .ensures) (c .before .before .before .before .before .before .before .before .before .before .before .before .before .before .before .before .before .before .«open» .ensures)
 

@@ -2,53 +2,37 @@ use Rattle.rushhopper.proofs.AnswerLaws.{counted}
 use borrow.Author.Needs.{needs}
 use Rattle.rushhopper.proofs.runs.rushhopper_run_on.Statement.{statement}
 use Rattle.rushhopper.proofs.runs.rushhopper_run_on.Tie as tie
-use Rattle.rushhopper.proofs.runs.rushhopper_run_on.Reads as reads
-use Rattle.rushhopper.proofs.runs.rushhopper_run_on.Lts as lts
-use Rattle.rules.proofs.answers.number_of.Reads as number-of-reads
-use Rattle.running.proofs.run_on.Reads as run-on-reads
-use Rattle.rushhopper.proofs.runs.advances_of.Reads as advances-of-reads
 
--- src/runs.rt:158:9
 run-on-requires : tie.Need-run-on-requires
 run-on-requires c κs = search needs
 
--- src/runs.rt:172:18
 number-of-requires : tie.Need-number-of-requires
 number-of-requires c κs = search needs
 
--- src/runs.rt:173:19
 advances-of-requires : tie.Need-advances-of-requires
 advances-of-requires c κs = search needs
 
--- src/runs.rt:138:1
 same-length : tie.Need-same-length
 same-length c = search needs
 
--- src/runs.rt:138:1
 same-length-2 : tie.Need-same-length-2
 same-length-2 c = search needs
 
--- src/runs.rt:138:1
 same-length-3 : tie.Need-same-length-3
 same-length-3 c = search needs
 
--- src/runs.rt:138:1
 same-length-4 : tie.Need-same-length-4
 same-length-4 c = search needs
 
--- src/runs.rt:138:1
 same-length-5 : tie.Need-same-length-5
 same-length-5 c = search needs
 
--- src/runs.rt:138:1
 same-length-6 : tie.Need-same-length-6
 same-length-6 c = search needs
 
--- src/runs.rt:138:1
 same-length-7 : tie.Need-same-length-7
 same-length-7 c = search needs
 
--- src/runs.rt:138:1
 returns : tie.Need-returns
 returns c = counted (c .before .number-of .ensures) (c .advances-of .ensures) (c .before .before .before .before .before .before .before .before .before .before .before .before .before .before .before .before .run-on .ensures)
 
