@@ -156,6 +156,7 @@ def options():
 
 def build(copy, lib):
     command = ["cargo", "build", "--quiet", "--release", "--offline", "--features", "library"]
+    command += ["--bin", "calls", "--bin", "sessions"]
     environment = dict(os.environ, RUSHHOPPER_LIB=os.path.abspath(lib), RUSTFLAGS="-Awarnings")
     subprocess.run(command, cwd=copy, env=environment, check=True)
 

@@ -39,7 +39,7 @@ use Rattle.tables.specs.Calls.{crash-judged, judge}
 use Rattle.vetting.specs.Vet.{behind, gate}
 use Rattle.messages.specs.Reach.{Reach, listener}
 use Rattle.advance.proofs.RuleLaws.{slot-low}
-use Rattle.orders.specs.Room.{Desk, holder}
+use Rattle.known.specs.Room.{Desk, holder}
 use Rattle.writing.specs.Doable.{Ready}
 use Rattle.judging.proofs.AlikeLaws.{advance-alike}
 

@@ -18,8 +18,8 @@ use Rattle.model.specs.Rules.{ahead, earlier, first-of, logged, pending, next-t
 use Rattle.model.proofs.Cases.{clash, and-true, and-both, or-true, or-false, if-ind, any-false}
 use Rattle.tables.specs.Layout.{has-bit}
 use Rattle.tables.specs.View.{holds}
-use Rattle.orders.specs.Room.{holder}
-use Rattle.orders.proofs.TagLaws.{rest, rest-none, rest-more}
+use Rattle.known.specs.Room.{holder}
+use Rattle.known.proofs.TagLaws.{rest, rest-none, rest-more}
 
 -- ---- one of the first numbers passes
 

@@ -1,7 +1,7 @@
 // The tag that a replica proposes next: of those that it holds and has not in its log, the first in the order of proposing.
-use crate::tags::is_blank;
 use cells::masks::has_bit;
 use cells::records::or;
+use known::is_blank;
 use model::Numbers;
 ghost use mathlib.Core.Path.{_≡_};
 ghost use mathlib.Core.Bool.{_&&_, not};
@@ -13,7 +13,7 @@ ghost use Rattle.model.specs.Tests.{if, any};
 ghost use Rattle.model.specs.Rules.{ahead, earlier, next-tag};
 ghost use Rattle.tables.specs.Layout.{has-bit, logs-need};
 ghost use Rattle.tables.specs.View.{log-in};
-ghost use Rattle.orders.specs.Room.{Desk, holder};
+ghost use Rattle.known.specs.Room.{Desk, holder};
 
 // The order in which pending tags are proposed.
 fn is_ahead(x: u64, y: u64) -> bool

@@ -1,9 +1,9 @@
 // Submit, relay and begin: refusals 6 to 12.
 use crate::pending::next_tag;
-use crate::tags::holds_tag;
-use crate::tags::is_blank;
-use crate::tags::is_known;
 use cells::records::or;
+use known::holds_tag;
+use known::is_blank;
+use known::is_known;
 use model::Effect;
 use model::Numbers;
 use model::Refusal;
@@ -16,7 +16,7 @@ ghost use lib.ListN.{take};
 ghost use Rattle.model.specs.declared.Round.the-variants.{Idle};
 ghost use Rattle.model.specs.Rack.{same-round};
 ghost use Rattle.model.specs.Rules.{submit-rule, relay-rule, begin-rule};
-ghost use Rattle.orders.specs.Room.{Desk, holder};
+ghost use Rattle.known.specs.Room.{Desk, holder};
 
 pub fn submit_rule(
     numbers: Numbers,

@@ -36,7 +36,7 @@ use Rattle.tables.specs.Write.{word-number}
 use Rattle.tables.specs.Checks.{lengths, long, misplaced, any-spoiled, checked}
 use Rattle.tables.specs.Calls.{crash-judged, judge}
 use Rattle.messages.specs.Reach.{Fitting}
-use Rattle.orders.specs.Room.{Storable}
+use Rattle.known.specs.Room.{Storable}
 use Rattle.advance.proofs.RuleLaws.{slot-low, state-phase}
 use Rattle.judging.proofs.GateLaws.{stands, ready}
 use Rattle.writing.specs.Doable.{Ready, Doable}

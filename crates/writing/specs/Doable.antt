@@ -15,7 +15,7 @@ use Rattle.tables.specs.Bounds.{Bounds}
 use Rattle.tables.specs.Addresses.{Within}
 use Rattle.tables.specs.Write.{word-number, proposal-stored, ballot-stored, entered}
 use Rattle.messages.specs.Reach.{Fitting}
-use Rattle.orders.specs.Room.{Room, Storable}
+use Rattle.known.specs.Room.{Room, Storable}
 
 -- the record of replica c is there
 pub record Placed (c : ℕ) (rs : List ℕ) : Type 0 where

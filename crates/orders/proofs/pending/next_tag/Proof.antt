@@ -1,4 +1,4 @@
-use Rattle.orders.proofs.TagLaws.{in-tags}
+use Rattle.known.proofs.TagLaws.{in-tags}
 use native.Mathlib.Omega.{arith}
 use Prim.Native.Nat.{_≤_}
 use mathlib.Core.Path.{_≡_}

@@ -1,7 +1,7 @@
 use borrow.Author.Tests.{not-true, not-false}
 use Rattle.model.specs.Rules.{require}
 use Rattle.model.proofs.Branches.{told}
-use Rattle.orders.proofs.TagLaws.{in-tags, room-for}
+use Rattle.known.proofs.TagLaws.{in-tags, room-for}
 use borrow.Author.Needs.{needs}
 use Rattle.orders.proofs.rule.submit_rule.Statement.{statement}
 use Rattle.orders.proofs.rule.submit_rule.Tie as tie

@@ -13,7 +13,7 @@ ghost use Rattle.model.specs.Tests.{listed};
 ghost use Rattle.tables.specs.Layout.{has-bit};
 ghost use Rattle.tables.specs.View.{holds};
 ghost use Rattle.tables.specs.Write.{place-in, known-held, tags-held, holders-held};
-ghost use Rattle.orders.specs.Room.{Room, Storable};
+ghost use Rattle.known.specs.Room.{Room, Storable};
 
 // "Tag 0 is no order".
 pub fn is_blank(x: u64) -> bool

@@ -3,8 +3,8 @@ use Prim.Native.Nat.{_≤_, _-_}
 use mathlib.Core.Path.{_≡_, sym}
 use Rattle.tables.specs.View.{holds}
 use Rattle.cells.proofs.RecordLaws.{any-none, any-more}
-use Rattle.orders.proofs.tags.holds_tag.Statement.{statement}
-use Rattle.orders.proofs.tags.holds_tag.Tie as tie
+use Rattle.known.proofs.holds_tag.Statement.{statement}
+use Rattle.known.proofs.holds_tag.Tie as tie
 
 abbrev Inv-loop : tie.InvT-loop
 Inv-loop who x known tags holders found₀ i₀ found i = (i ≤ known) × (found ≡ holds i tags holders who x)

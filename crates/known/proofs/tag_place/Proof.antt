@@ -1,8 +1,8 @@
 use native.Mathlib.Omega.{arith}
 use Prim.Native.Nat.{_≤_, _-_}
-use Rattle.orders.proofs.TagLaws.{Sought, place-here, place-more, place-none}
-use Rattle.orders.proofs.tags.tag_place.Statement.{statement}
-use Rattle.orders.proofs.tags.tag_place.Tie as tie
+use Rattle.known.proofs.TagLaws.{Sought, place-here, place-more, place-none}
+use Rattle.known.proofs.tag_place.Statement.{statement}
+use Rattle.known.proofs.tag_place.Tie as tie
 
 abbrev Inv-loop : tie.InvT-loop
 Inv-loop x known tags i₀ i = (i ≤ known) × Sought tags known x i

@@ -1,7 +1,7 @@
-use Rattle.orders.proofs.TagLaws.{known-place}
+use Rattle.known.proofs.TagLaws.{known-place}
 use borrow.Author.Needs.{needs}
-use Rattle.orders.proofs.tags.is_known.Statement.{statement}
-use Rattle.orders.proofs.tags.is_known.Tie as tie
+use Rattle.known.proofs.is_known.Statement.{statement}
+use Rattle.known.proofs.is_known.Tie as tie
 
 tag-place-requires : tie.Need-tag-place-requires
 tag-place-requires c κs = search needs

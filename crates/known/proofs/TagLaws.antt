@@ -15,7 +15,7 @@ use Rattle.model.specs.Tests.{if, some, listed}
 use Rattle.model.proofs.Branches.{if-true, if-false}
 use Rattle.tables.specs.Layout.{with-bit}
 use Rattle.tables.specs.Write.{place-in, known-held, tags-held, holders-held}
-use Rattle.orders.specs.Room.{Room, Storable}
+use Rattle.known.specs.Room.{Room, Storable}
 
 pub in-tags : {N : Numbers} {k : ℕ} {ts hs : List ℕ} → Room N k ts hs → k ≤ length ts
 in-tags r = le-trans (r .known) (r .tags)

@@ -1,8 +1,8 @@
 use native.Mathlib.Omega.{arith}
-use Rattle.orders.proofs.TagLaws.{in-tags, held-known, held-new, room-left}
+use Rattle.known.proofs.TagLaws.{in-tags, held-known, held-new, room-left}
 use borrow.Author.Needs.{needs}
-use Rattle.orders.proofs.tags.hold_tag.Statement.{statement}
-use Rattle.orders.proofs.tags.hold_tag.Tie as tie
+use Rattle.known.proofs.hold_tag.Statement.{statement}
+use Rattle.known.proofs.hold_tag.Tie as tie
 
 tag-place-requires : tie.Need-tag-place-requires
 tag-place-requires c κs = search needs
