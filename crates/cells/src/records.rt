@@ -7,7 +7,6 @@ ghost use mathlib.Core.Bool.{_||_};
 ghost use Prim.Native.Nat.{_<_, _≤_, _+_, _*_};
 ghost use lib.ListN.{length};
 ghost use Rattle.model.specs.declared.Round.the-variants.{State};
-ghost use Rattle.model.specs.Rack.{round-number};
 ghost use Rattle.tables.specs.Layout.{record-at, record-stored};
 ghost use Rattle.tables.specs.View.{round-in};
 ghost use Rattle.tables.specs.Checks.{misplaced, spoiled, spoiled-at, any-spoiled};
@@ -84,13 +83,10 @@ pub fn record_spoiled(numbers: Numbers, k: Record) -> bool
     if k.round == 1 {
         return numbers.slots <= slot;
     }
-    if k.round == 2 {
-        return misplaced_phase(numbers, slot, phase);
+    if k.round == 4 {
+        return numbers.slots <= slot;
     }
-    if k.round == 3 {
-        return misplaced_phase(numbers, slot, phase);
-    }
-    numbers.slots <= slot
+    misplaced_phase(numbers, slot, phase)
 }
 
 fn spoiled_record(numbers: Numbers, records: &[u16], c: usize) -> bool
@@ -119,11 +115,12 @@ pub fn any_spoiled(numbers: Numbers, records: &[u16]) -> bool
     ensures { λ r. ⌜ r ≡ any-spoiled numbers (now (records .entry)) ⌝ }
 {
     let n = numbers.n;
-    let mut bad = false;
     let mut i = 0;
     while i < n {
-        bad = or(spoiled_record(numbers, records, i), bad);
+        if spoiled_record(numbers, records, i) {
+            return true;
+        }
         i += 1;
     }
-    bad
+    false
 }

@@ -1,26 +1,29 @@
+use mathlib.Core.Bool.{_||_, false}
 use native.Mathlib.Omega.{arith}
 use Prim.Native.Nat.{_≤_, _-_}
-use mathlib.Core.Path.{_≡_, sym}
+use mathlib.Core.Path.{_≡_, sym, _∙_, ap₂}
 use Rattle.model.specs.Tests.{any}
 use Rattle.tables.specs.Checks.{spoiled-at, any-spoiled}
-use Rattle.cells.proofs.RecordLaws.{any-none, any-more}
+use Rattle.model.proofs.Branches.{told}
+use Rattle.cells.proofs.RecordLaws.{any-none, any-more, any-here}
 use Rattle.cells.proofs.records.any_spoiled.Statement.{statement}
 use Rattle.cells.proofs.records.any_spoiled.Tie as tie
 
 abbrev Inv-loop : tie.InvT-loop
-Inv-loop numbers records n bad₀ i₀ bad i = (i ≤ n) × (n ≡ numbers .n) × (bad ≡ any i (spoiled-at numbers records))
+Inv-loop numbers records n i₀ i = (i ≤ n) × (n ≡ numbers .n) × (any i (spoiled-at numbers records) ≡ false)
 
 abbrev μ-loop : tie.MeasureT-loop
-μ-loop numbers records n bad₀ i₀ bad i = n - i
+μ-loop numbers records n i₀ i = n - i
 
 loop-holds : tie.Need-loop-holds Inv-loop μ-loop
-loop-holds c = (omega arith, omega arith, sym (any-none _))
+loop-holds c = (omega arith, omega arith, any-none _)
 
 spoiled-record-requires : tie.Need-spoiled-record-requires Inv-loop μ-loop
 spoiled-record-requires c κs = let p = c .before .before .before .pre in omega arith
 
-or-requires : tie.Need-or-requires Inv-loop μ-loop
-or-requires c κs = omega arith
+returns : tie.Need-returns Inv-loop μ-loop
+unfolding any-spoiled
+returns c = sym (any-here _ _ _ (omega arith) (told (c .before .spoiled-record .ensures) (c .if1 .taken)))
 
 add-i : tie.Need-add-i Inv-loop μ-loop
 add-i c = omega arith
@@ -29,11 +32,11 @@ loop-less : tie.Need-loop-less Inv-loop μ-loop
 loop-less c = omega arith
 
 loop-again : tie.Need-loop-again Inv-loop μ-loop
-loop-again c = (omega arith, omega arith, cc (any-more _ _))
+loop-again c = (omega arith, omega arith, any-more _ _ ∙ ap₂ _||_ (told (c .before .spoiled-record .ensures) (c .if1 .left)) (c .before .before .before .loop .inv .2))
 
-returns : tie.Need-returns Inv-loop μ-loop
+returns-2 : tie.Need-returns-2 Inv-loop μ-loop
 unfolding any-spoiled
-returns c = let e : c .before .loop .i ≡ c .before .before .before .args .numbers .n = omega arith in cc
+returns-2 c = let e : c .before .loop .i ≡ c .before .before .before .args .numbers .n = omega arith in cc
 
 pub any-spoiled-spec : {M : Type 1} → statement M
 any-spoiled-spec =
@@ -43,8 +46,8 @@ any-spoiled-spec =
     μ-loop
     loop-holds
     spoiled-record-requires
-    or-requires
+    returns
     add-i
     loop-less
     loop-again
-    returns)
+    returns-2)
