@@ -1,10 +1,11 @@
--- The tag to propose. The loop asks for the replica's bit at each place itself; the definition asks whether the tag there is
--- held at any place. Both find the first of the same tags, even where a tag stands twice.
+-- The tag to propose. The loop goes from the front and asks for the replica's bit at each place itself; the definition goes
+-- from the end and asks whether the tag there is held at any place. Both find the first of the same tags, even where a tag
+-- stands twice.
 use mathlib.Core.Path.{_≡_, refl, sym, _∙_, ap, subst}
 use mathlib.Core.Bool.{Bool, true, false, not, _&&_, _||_, true≢false}
 use mathlib.Core.List.{List}
-use mathlib.Core.Logic.{⊎-elim}
-use Prim.Native.Nat.{ℕ, zero, suc, _+_, _-_, _<_, _≤_}
+use mathlib.Core.Logic.{_⊎_, inl, inr, ⊎-elim}
+use Prim.Native.Nat.{ℕ, zero, suc, _+_, _<_, _≤_}
 use native.Mathlib.Omega.{arith}
 use native.Mathlib.Decide.{ℕ-discrete}
 use lib.Dec.{eqb}
@@ -15,21 +16,15 @@ use Rattle.model.specs.declared.Numbers.{Numbers}
 use Rattle.model.specs.declared.Round.the-variants.{Idle}
 use Rattle.model.specs.Rack.{Replica}
 use Rattle.model.specs.Rules.{ahead, earlier, first-of, logged, pending, next-tag}
-use Rattle.model.proofs.Cases.{clash, and-true, and-both, or-true, or-false, if-ind, any-false}
+use Rattle.model.proofs.Branches.{if-false}
+use Rattle.model.proofs.Cases.{clash, and-true, and-both, or-true, or-false, if-ind}
 use Rattle.tables.specs.Layout.{has-bit}
 use Rattle.tables.specs.View.{holds}
 use Rattle.known.specs.Room.{holder}
+use Rattle.cells.proofs.RecordLaws.{any-here}
 use Rattle.known.proofs.TagLaws.{rest, rest-none, rest-more}
 
--- ---- one of the first numbers passes
-
-any-here : (k : ℕ) (P : ℕ → Bool) (j : ℕ) → j < k → P j ≡ true → any k P ≡ true
-any-here k P j h e = go (any k P) refl
-  where
-    go : (b : Bool) → any k P ≡ b → b ≡ true
-    go true q = refl
-    go false q = clash (sym (any-false k P q j h) ∙ e)
-
+-- a number that passes, if one of the first does
 any-place : (k : ℕ) (P : ℕ → Bool) → any k P ≡ true → (j : ℕ) × (j < k) × (P j ≡ true)
 unfolding any
 any-place zero P e = clash e
@@ -70,73 +65,86 @@ same-first {r = r} {s = s} to back a b = go r s (λ h. b .0 r (to r (a .1 h)) h)
     go zero (suc s) f g = let h = g (omega arith) .0 in omega arith
     go (suc r) s f g = let h = f (omega arith) in no-later-same (g (h .0) .1) (h .1)
 
-module _ (ts : List ℕ) (k : ℕ) where
-  -- the tag stands at a known place from i on, one that passes
-  abbrev pub Stands : (ℕ → Bool) → ℕ → ℕ → Type 0
-  Stands ok i x = (j : ℕ) × (i ≤ j) × (j < k) × (ok j ≡ true) × (getD ts j 0 ≡ x)
+-- the first of the tags so far, and of one more that may pass
+abbrev joined : Bool → ℕ → ℕ → ℕ
+joined ok y b = if (ok && not (eqb y 0)) (earlier y b) b
+
+-- a tag that is not ahead changes nothing, whether it passes or not
+pub not-ahead : (t : Bool) (y b : ℕ) → (eqb b 0 || ahead y b) ≡ false → b ≡ if t (earlier y b) b
+unfolding earlier
+not-ahead t y b e = if-ind (λ (r : ℕ). b ≡ r) t (λ _. sym (if-false _ _ e)) (λ _. refl)
+
+-- B is A and one more tag y, if it passes
+module _ {A B : ℕ → Type 0} (ok : Bool) (y : ℕ) (kept : (x : ℕ) → A x → B x) (added : ok ≡ true → B y)
+    (no-more : (x : ℕ) → B x → A x ⊎ ((ok ≡ true) × (y ≡ x))) {b : ℕ} (f : First A b) where
+  -- what is no later than y and than b is no later than any
+  least : (r : ℕ) → (ok ≡ true → 0 < y → (0 < r) × NoLater r y) → (0 < b → (0 < r) × NoLater r b) → (0 < r → B r) → First B r
+  least r new old found = (λ x is pos. go x pos (no-more x is), found)
+    where
+      go : (x : ℕ) → 0 < x → A x ⊎ ((ok ≡ true) × (y ≡ x)) → (0 < r) × NoLater r x
+      go x pos (inl is) = let l = f .0 x is pos in let m = old (l .0) in (m .0, no-later-both (m .1) (l .1))
+      go x pos (inr (u, same)) = let m = new u (omega arith) in (m .0, subst (NoLater r) same (m .1))
+
+  further : 0 < b → B b
+  further pos = kept b (f .1 pos)
+
+  first-ahead : (eqb b 0 || ahead y b) ≡ true → 0 < b → NoLater y b
+  first-ahead q pos = ⊎-elim (λ n. let p = eqb-true b 0 n in absurd (omega arith)) ahead-no-later (or-true (eqb b 0) _ q)
+
+  left : (ok && not (eqb y 0)) ≡ false → First B b
+  left e =
+      let never : ok ≡ true → 0 < y → ⊥ = (λ u pos. true≢false (sym (and-both ok _ u (ap not (ne-eqb y 0 (omega arith)))) ∙ e)) in
+      least b (λ u pos. absurd (never u pos)) (λ pos. (pos, no-later-self b)) further
+
+  taken : (ok && not (eqb y 0)) ≡ true → First B (earlier y b)
+  unfolding earlier
+  taken e = let (u, z) = and-true ok _ e in let some = eqb-false y 0 (not-true _ z) in if-ind (First B) (eqb b 0 || ahead y b)
+      (λ q. least y (λ _ pos. (pos, no-later-self y)) (λ pos. (omega arith, first-ahead q pos)) (λ _. added u))
+      (λ q. let (n, l) = or-false (eqb b 0) _ q in let p = eqb-false b 0 n in
+      least b (λ _ pos. (omega arith, behind-no-later l)) (λ pos. (pos, no-later-self b)) further)
+
+  turn : First B (joined ok y b)
+  turn = if-ind (First B) (ok && not (eqb y 0)) taken left
+
+module _ (ts : List ℕ) where
+  -- the tag stands at a place from a to b, b not included, one that passes
+  abbrev pub Stands : (ℕ → Bool) → ℕ → ℕ → ℕ → Type 0
+  Stands ok a b x = (j : ℕ) × (a ≤ j) × (j < b) × (ok j ≡ true) × (getD ts j 0 ≡ x)
 
   module _ (ok : ℕ → Bool) where
-    pub first-none : First (Stands ok k) 0
-    first-none = (λ x (j, from, known, _, _) pos. absurd (omega arith), λ pos. absurd (omega arith))
+    pub first-none : (a : ℕ) → First (Stands ok a a) 0
+    first-none a = (λ x (j, from, to, _, _) pos. absurd (omega arith), λ pos. absurd (omega arith))
 
-    -- b is the first after place i; y, the tag at i, is one more
-    module _ (i : ℕ) (h : i < k) {b : ℕ} (f : First (Stands ok (suc i)) b) where
-      abbrev y : ℕ
-      y = getD ts i 0
+    -- place i is one more, before the others or after them
+    stands-more : (i : ℕ) {a b a′ b′ r : ℕ} → a′ ≤ i → i < b′ → ((j : ℕ) → a ≤ j → j < b → (a′ ≤ j) × (j < b′))
+        → ((j : ℕ) → a′ ≤ j → j < b′ → (j ≡ i → ⊥) → (a ≤ j) × (j < b)) → First (Stands ok a b) r → First (Stands ok a′ b′) (joined (ok i) (getD ts i 0) r)
+    stands-more i {a} {b} {a′} {b′} from to kept no-more =
+        turn (ok i) (getD ts i 0) (λ x (j, h, l, passes, tag). (j, kept j h l .0, kept j h l .1, passes, tag)) (λ u. (i, from, to, u, refl))
+        (λ x (j, h, l, passes, tag). go x j h l passes tag (ℕ-discrete j i))
+      where
+        go : (x j : ℕ) → a′ ≤ j → j < b′ → ok j ≡ true → getD ts j 0 ≡ x → Dec (j ≡ i) → Stands ok a b x ⊎ ((ok i ≡ true) × (getD ts i 0 ≡ x))
+        go x j h l passes tag (yes e) = inr (ap ok (sym e) ∙ passes, ap (λ (n : ℕ). getD ts n 0) (sym e) ∙ tag)
+        go x j h l passes tag (no ne) = let (h′, l′) = no-more j h l ne in inl (j, h′, l′, passes, tag)
 
-      further : 0 < b → Stands ok i b
-      further pos = let (j, from, known, passes, tag) = f .1 pos in (j, omega arith, known, passes, tag)
+    -- a turn of the loop
+    pub first-more : (i : ℕ) {b r : ℕ} → First (Stands ok 0 i) b → r ≡ joined (ok i) (getD ts i 0) b → First (Stands ok 0 (i + 1)) r
+    first-more i f e =
+        subst (First (Stands ok 0 (i + 1))) (sym e)
+        (stands-more i (omega arith) (omega arith) (λ j h l. (h, omega arith)) (λ j h l ne. (h, omega arith)) f)
 
-      -- what is no later than y and than b is no later than any
-      least : (r : ℕ) → (ok i ≡ true → 0 < y → (0 < r) × NoLater r y) → (0 < b → (0 < r) × NoLater r b) → (0 < r → Stands ok i r) → First (Stands ok i) r
-      least r at-i after found = (λ x (j, from, known, passes, tag) pos. go x j from known passes tag pos (ℕ-discrete j i), found)
-        where
-          go : (x j : ℕ) → i ≤ j → j < k → ok j ≡ true → getD ts j 0 ≡ x → 0 < x → Dec (j ≡ i) → (0 < r) × NoLater r x
-          go x j from known passes tag pos (yes e) =
-              let same = ap (λ (a : ℕ). getD ts a 0) (sym e) ∙ tag in
-              let m = at-i (ap ok (sym e) ∙ passes) (omega arith) in
-              (m .0, subst (NoLater r) same (m .1))
-          go x j from known passes tag pos (no ne) =
-              let l = f .0 x (j, omega arith, known, passes, tag) pos in
-              let m = after (l .0) in
-              (m .0, no-later-both (m .1) (l .1))
-
-      first-ahead : (eqb b 0 || ahead y b) ≡ true → 0 < b → NoLater y b
-      first-ahead q pos = ⊎-elim (λ n. let p = eqb-true b 0 n in absurd (omega arith)) ahead-no-later (or-true (eqb b 0) _ q)
-
-      left : (ok i && not (eqb y 0)) ≡ false → First (Stands ok i) b
-      left e =
-          let never : ok i ≡ true → 0 < y → ⊥ = (λ u pos. true≢false (sym (and-both (ok i) _ u (ap not (ne-eqb y 0 (omega arith)))) ∙ e)) in
-          least b (λ u pos. absurd (never u pos)) (λ pos. (pos, no-later-self b)) further
-
-      taken : (ok i && not (eqb y 0)) ≡ true → First (Stands ok i) (earlier y b)
-      unfolding earlier
-      taken e = let (u, z) = and-true (ok i) _ e in let some = eqb-false y 0 (not-true _ z) in if-ind (First (Stands ok i)) (eqb b 0 || ahead y b)
-          (λ q. least y (λ _ pos. (pos, no-later-self y)) (λ pos. (omega arith, first-ahead q pos)) (λ _. (i, omega arith, h, u, refl)))
-          (λ q. let (n, l) = or-false (eqb b 0) _ q in let p = eqb-false b 0 n in
-          least b (λ _ pos. (omega arith, behind-no-later l)) (λ pos. (pos, no-later-self b)) further)
-
-      turn : First (Stands ok i) (if (ok i && not (eqb y 0)) (earlier y b) b)
-      turn = if-ind (First (Stands ok i)) (ok i && not (eqb y 0)) taken left
-
-    -- a turn of the loop, from i down to i - 1
-    pub first-more : (i : ℕ) {b r : ℕ} {waits : Bool} → 0 < i → i ≤ k → First (Stands ok i) b → waits ≡ ok (i - 1)
-        → r ≡ if (waits && not (eqb (getD ts (i - 1) 0) 0)) (earlier (getD ts (i - 1) 0) b) b → First (Stands ok (i - 1)) r
-    first-more i {b} {r} {waits} pos h f w q =
-        let back : i ≡ suc (i - 1) = omega arith in
-        let e = q ∙ ap (λ (v : Bool). if (v && not (eqb (getD ts (i - 1) 0) 0)) (earlier (getD ts (i - 1) 0) b) b) w in
-        subst (First (Stands ok (i - 1))) (sym e) (turn (i - 1) (omega arith) (subst (λ (j : ℕ). First (Stands ok j) b) back f))
-
+module _ (ts : List ℕ) (k : ℕ) where
   -- ---- the definition's, whose test is of the tag
 
   module _ (l : k ≤ length ts) (ok : ℕ → Bool) where
     abbrev Found : ℕ → List ℕ → Type 0
-    Found i xs = First (Stands (λ j. ok (getD ts j 0)) i) (first-of ok xs)
+    Found i xs = First (Stands ts (λ j. ok (getD ts j 0)) i k) (first-of ok xs)
 
     of-rest : (left i : ℕ) → i + left ≡ k → Found i (rest ts k i)
     unfolding first-of
-    of-rest zero i e = let h : k ≡ i = omega arith in subst (λ (j : ℕ). Found j (rest ts k j)) h (subst (Found k) (sym (rest-none ts k l)) (first-none _))
-    of-rest (suc left) i e = subst (Found i) (sym (rest-more ts k l i (omega arith))) (turn _ i (omega arith) (of-rest left (suc i) (omega arith)))
+    of-rest zero i e = let h : k ≡ i = omega arith in subst (λ (j : ℕ). Found j (rest ts k j)) h (subst (Found k) (sym (rest-none ts k l)) (first-none ts _ k))
+    of-rest (suc left) i e =
+        subst (Found i) (sym (rest-more ts k l i (omega arith)))
+        (stands-more ts _ i (omega arith) (omega arith) (λ j h l. (omega arith, l)) (λ j h l ne. (omega arith, l)) (of-rest left (suc i) (omega arith)))
 
   -- ---- a tag is held where it stands, or at another place that has it
 
@@ -148,14 +156,14 @@ module _ (ts : List ℕ) (k : ℕ) where
     abbrev pub waits : ℕ → Bool
     waits j = has-bit (getD hs j 0) c && not (logged own (getD ts j 0))
 
-    pending-here : (x : ℕ) → Stands waits 0 x → Stands (λ j. pending own (getD ts j 0)) 0 x
+    pending-here : (x : ℕ) → Stands ts waits 0 k x → Stands ts (λ j. pending own (getD ts j 0)) 0 k x
     unfolding holds
     pending-here x (j, from, known, passes, tag) =
         let (b, new) = and-true (has-bit (getD hs j 0) c) _ passes in
         let held = any-here k (λ a. eqb (getD ts a 0) (getD ts j 0) && has-bit (getD hs a 0) c) j known (and-both _ _ (eq-eqb (getD ts j 0) _ refl) b) in
         (j, from, known, and-both _ _ held new, tag)
 
-    held-somewhere : (x : ℕ) → Stands (λ j. pending own (getD ts j 0)) 0 x → Stands waits 0 x
+    held-somewhere : (x : ℕ) → Stands ts (λ j. pending own (getD ts j 0)) 0 k x → Stands ts waits 0 k x
     unfolding holds
     held-somewhere x (j, from, known, passes, tag) =
         let (held, new) = and-true (holds k ts hs c (getD ts j 0)) _ passes in
@@ -164,5 +172,5 @@ module _ (ts : List ℕ) (k : ℕ) where
         let same = eqb-true _ _ e in
         (a, omega arith, inside, and-both _ _ b (ap (λ (y : ℕ). not (logged own y)) same ∙ new), same ∙ tag)
 
-    pub first-is : {r : ℕ} → k ≤ length ts → First (Stands waits 0) r → r ≡ next-tag (take k ts) own
+    pub first-is : {r : ℕ} → k ≤ length ts → First (Stands ts waits 0 k) r → r ≡ next-tag (take k ts) own
     first-is l f = same-first pending-here held-somewhere f (of-rest l (pending own) k 0 (omega arith))

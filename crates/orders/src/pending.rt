@@ -22,16 +22,6 @@ fn is_ahead(x: u64, y: u64) -> bool
     x < y
 }
 
-// Of two tags the one that is proposed first; y may be none.
-pub fn earlier_tag(x: u64, y: u64) -> u64
-    ensures { λ r. ⌜ r ≡ earlier x y ⌝ }
-{
-    if or(is_blank(y), is_ahead(x, y)) {
-        return x;
-    }
-    y
-}
-
 // The entry of a slot in the log of `who`.
 fn log_entry(numbers: Numbers, who: usize, slot: usize, logs: &[u64]) -> u64
     requires { ⌜ (who < numbers .n) × (slot < numbers .slots) × (logs-need numbers ≤ length (now logs)) ⌝ }
@@ -66,20 +56,33 @@ fn waits_here(numbers: Numbers, who: usize, closed: usize, x: u64, mask: u16, lo
     !is_logged(numbers, who, closed, x, logs)
 }
 
-// The first of the pending tags so far, and of one more that may be pending.
-fn first_with(x: u64, waits: bool, first: u64) -> u64
-    ensures { λ r. ⌜ r ≡ if (waits && not (eqb x 0)) (earlier x first) first ⌝ }
+// The first of the pending tags so far, or this place's tag, if it comes ahead of it and is pending. The log is looked through
+// last.
+fn first_with(
+    numbers: Numbers,
+    who: usize,
+    closed: usize,
+    x: u64,
+    mask: u16,
+    first: u64,
+    logs: &[u64],
+) -> u64
+    requires { ⌜ (who < 16) × (who < numbers .n) × (closed ≤ numbers .slots) × (logs-need numbers ≤ length (now logs)) ⌝ }
+    ensures { λ r. ⌜ r ≡ if ((has-bit mask who && not (any closed (λ s. eqb (log-in numbers (now (logs .entry)) who s) x))) && not (eqb x 0)) (earlier x first) first ⌝ }
 {
-    if !waits {
-        return first;
-    }
     if is_blank(x) {
         return first;
     }
-    earlier_tag(x, first)
+    if !or(is_blank(first), is_ahead(x, first)) {
+        return first;
+    }
+    if waits_here(numbers, who, closed, x, mask, logs) {
+        return x;
+    }
+    first
 }
 
-// 0 if no tag is pending. The definition goes from the list's end to its front, and so does the loop.
+// 0 if no tag is pending.
 pub fn next_tag(
     numbers: Numbers,
     who: usize,
@@ -93,12 +96,10 @@ pub fn next_tag(
     ensures { λ r. ⌜ r ≡ next-tag (take known (now (tags .entry))) (holder numbers who Idle closed known (now (tags .entry)) (now (holders .entry)) (now (logs .entry))) ⌝ }
 {
     let mut first = 0;
-    let mut i = known;
-    while 0 < i {
-        i -= 1;
-        let x = tags[i];
-        let waits = waits_here(numbers, who, closed, x, holders[i], logs);
-        first = first_with(x, waits, first);
+    let mut i = 0;
+    while i < known {
+        first = first_with(numbers, who, closed, tags[i], holders[i], first, logs);
+        i += 1;
     }
     first
 }

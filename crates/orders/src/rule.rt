@@ -1,9 +1,8 @@
 // Submit, relay and begin: refusals 6 to 12.
 use crate::pending::next_tag;
-use cells::records::or;
-use known::holds_tag;
+use known::held_from;
 use known::is_blank;
-use known::is_known;
+use known::tag_place;
 use model::Effect;
 use model::Numbers;
 use model::Refusal;
@@ -33,11 +32,14 @@ pub fn submit_rule(
     if is_blank(x) {
         return Effect::Refuse(Refusal::BlankTag);
     }
-    if holds_tag(who, x, known, tags, holders) {
+    let first = tag_place(x, known, tags);
+    if held_from(who, x, first, known, tags, holders) {
         return Effect::Refuse(Refusal::AlreadyHeld);
     }
-    if !or(is_known(x, known, tags), known < numbers.room) {
-        return Effect::Refuse(Refusal::TagRoomFull);
+    if known <= first {
+        if numbers.room <= known {
+            return Effect::Refuse(Refusal::TagRoomFull);
+        }
     }
     Effect::Hold(x)
 }
@@ -57,10 +59,11 @@ pub fn relay_rule(
     if is_blank(x) {
         return Effect::Refuse(Refusal::BlankTag);
     }
-    if !is_known(x, known, tags) {
+    let first = tag_place(x, known, tags);
+    if known <= first {
         return Effect::Refuse(Refusal::UnknownTag);
     }
-    if holds_tag(who, x, known, tags, holders) {
+    if held_from(who, x, first, known, tags, holders) {
         return Effect::Refuse(Refusal::AlreadyHeld);
     }
     Effect::Hold(x)
