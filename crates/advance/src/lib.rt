@@ -6,18 +6,23 @@ use model::Refusal;
 use model::Round;
 use model::Sort;
 use model::Word;
-use tallies::bit_tally;
-use tallies::heard_count;
+use tallies::count_heard;
 use tallies::majority_tag;
 ghost use mathlib.Core.Path.{_≡_};
 ghost use mathlib.Core.Bool.{true, false};
-ghost use Prim.Native.Nat.{_<_};
+ghost use Prim.Native.Nat.{_<_, _+_, suc};
+ghost use lib.Dec.{ltb};
 ghost use Rattle.model.specs.declared.Sort.the-variants.{States, Votes};
+ghost use Rattle.model.specs.declared.Word.the-variants.{Say, Unsure};
 ghost use Rattle.model.specs.declared.Outcome.the-variants.{Undecided, Decided};
-ghost use Rattle.model.specs.Rules.{exchange-rule, vote-of, state-rule, outcome, next-state, conclude, vote-rule, find-rule, advance-rule};
+ghost use Rattle.model.specs.declared.Refusal.the-variants.{PhasesUsedUp};
+ghost use Rattle.model.specs.declared.Effect.the-variants.{Send};
+ghost use Rattle.model.specs.Rules.{require, majority, exchange-rule, state-rule, conclude, vote-rule, find-rule, advance-rule};
+ghost use Rattle.tables.specs.Bounds.{Bounds};
 ghost use Rattle.tables.specs.Checks.{misplaced};
 ghost use Rattle.messages.specs.Reach.{Reach};
 ghost use Rattle.tallies.specs.Seat.{Seat, SeatIn, ears};
+ghost use Rattle.advance.specs.Picked.{picked};
 
 fn exchange_rule(
     numbers: Numbers,
@@ -31,7 +36,7 @@ fn exchange_rule(
     requires { ⌜ Seat numbers who slot (now proposals) (now ballots) (now heard) ⌝ }
     ensures { λ r. ⌜ r ≡ exchange-rule numbers (ears numbers who slot phase (now (proposals .entry)) (now (ballots .entry)) (now (heard .entry))) ⌝ }
 {
-    let enough = heard_count(
+    let count = count_heard(
         numbers,
         who,
         Sort::Proposals,
@@ -41,7 +46,7 @@ fn exchange_rule(
         ballots,
         heard,
     );
-    if enough < numbers.n - numbers.f {
+    if count.all < numbers.n - numbers.f {
         return Effect::Refuse(Refusal::TooFewHeard);
     }
     let tag = majority_tag(numbers, who, slot, proposals, ballots, heard);
@@ -52,44 +57,13 @@ fn exchange_rule(
     }
 }
 
-fn vote_of(
-    numbers: Numbers,
-    who: usize,
-    slot: usize,
-    phase: usize,
-    proposals: &[u64],
-    ballots: &[u8],
-    heard: &[u16],
-) -> Word
-    requires { ⌜ SeatIn numbers who States slot phase (now proposals) (now ballots) (now heard) ⌝ }
-    ensures { λ r. ⌜ r ≡ vote-of numbers (ears numbers who slot phase (now (proposals .entry)) (now (ballots .entry)) (now (heard .entry))) ⌝ }
+fn vote_of(numbers: Numbers, zeros: usize, ones: usize) -> Word
+    ensures { λ r. ⌜ r ≡ picked (majority numbers) zeros ones (Say false) (Say true) Unsure ⌝ }
 {
     let majority = numbers.n / 2 + 1;
-    let zeros = bit_tally(
-        numbers,
-        who,
-        Sort::States,
-        slot,
-        phase,
-        false,
-        proposals,
-        ballots,
-        heard,
-    );
     if majority <= zeros {
         return Word::Say(false);
     }
-    let ones = bit_tally(
-        numbers,
-        who,
-        Sort::States,
-        slot,
-        phase,
-        true,
-        proposals,
-        ballots,
-        heard,
-    );
     if majority <= ones {
         return Word::Say(true);
     }
@@ -108,7 +82,7 @@ fn state_rule(
     requires { ⌜ SeatIn numbers who States slot phase (now proposals) (now ballots) (now heard) ⌝ }
     ensures { λ r. ⌜ r ≡ state-rule numbers (ears numbers who slot phase (now (proposals .entry)) (now (ballots .entry)) (now (heard .entry))) ⌝ }
 {
-    let enough = heard_count(
+    let count = count_heard(
         numbers,
         who,
         Sort::States,
@@ -118,99 +92,36 @@ fn state_rule(
         ballots,
         heard,
     );
-    if enough < numbers.n - numbers.f {
+    if count.all < numbers.n - numbers.f {
         return Effect::Refuse(Refusal::TooFewHeard);
     }
-    let word = vote_of(numbers, who, slot, phase, proposals, ballots, heard);
     Effect::Send {
         sort: Sort::Votes,
         phase,
-        word,
+        word: vote_of(numbers, count.zeros, count.ones),
     }
 }
 
-fn outcome_of(
-    numbers: Numbers,
-    who: usize,
-    slot: usize,
-    phase: usize,
-    proposals: &[u64],
-    ballots: &[u8],
-    heard: &[u16],
-) -> Outcome
-    requires { ⌜ SeatIn numbers who Votes slot phase (now proposals) (now ballots) (now heard) ⌝ }
-    ensures { λ r. ⌜ r ≡ outcome numbers (ears numbers who slot phase (now (proposals .entry)) (now (ballots .entry)) (now (heard .entry))) ⌝ }
+fn outcome_of(numbers: Numbers, zeros: usize, ones: usize) -> Outcome
+    requires { ⌜ Bounds numbers ⌝ }
+    ensures { λ r. ⌜ r ≡ picked (numbers .f + 1) zeros ones (Decided false) (Decided true) Undecided ⌝ }
 {
     let enough = numbers.f + 1;
-    let zeros = bit_tally(
-        numbers,
-        who,
-        Sort::Votes,
-        slot,
-        phase,
-        false,
-        proposals,
-        ballots,
-        heard,
-    );
     if enough <= zeros {
         return Outcome::Decided(false);
     }
-    let ones = bit_tally(
-        numbers,
-        who,
-        Sort::Votes,
-        slot,
-        phase,
-        true,
-        proposals,
-        ballots,
-        heard,
-    );
     if enough <= ones {
         return Outcome::Decided(true);
     }
     Outcome::Undecided
 }
 
-fn next_state(
-    numbers: Numbers,
-    who: usize,
-    slot: usize,
-    phase: usize,
-    flip: bool,
-    proposals: &[u64],
-    ballots: &[u8],
-    heard: &[u16],
-) -> bool
-    requires { ⌜ SeatIn numbers who Votes slot phase (now proposals) (now ballots) (now heard) ⌝ }
-    ensures { λ r. ⌜ r ≡ next-state numbers flip (ears numbers who slot phase (now (proposals .entry)) (now (ballots .entry)) (now (heard .entry))) ⌝ }
+fn next_state(flip: bool, zeros: usize, ones: usize) -> bool
+    ensures { λ r. ⌜ r ≡ picked 1 zeros ones false true flip ⌝ }
 {
-    let zeros = bit_tally(
-        numbers,
-        who,
-        Sort::Votes,
-        slot,
-        phase,
-        false,
-        proposals,
-        ballots,
-        heard,
-    );
     if 1 <= zeros {
         return false;
     }
-    let ones = bit_tally(
-        numbers,
-        who,
-        Sort::Votes,
-        slot,
-        phase,
-        true,
-        proposals,
-        ballots,
-        heard,
-    );
     if 1 <= ones {
         return true;
     }
@@ -238,27 +149,17 @@ fn close_or_seek(
 }
 
 // No outcome.
-fn go_on(
-    numbers: Numbers,
-    who: usize,
-    slot: usize,
-    phase: usize,
-    flip: bool,
-    proposals: &[u64],
-    ballots: &[u8],
-    heard: &[u16],
-) -> Effect
-    requires { ⌜ SeatIn numbers who Votes slot phase (now proposals) (now ballots) (now heard) ⌝ }
-    ensures { λ r. ⌜ r ≡ conclude numbers flip (ears numbers who slot phase (now (proposals .entry)) (now (ballots .entry)) (now (heard .entry))) Undecided ⌝ }
+fn go_on(numbers: Numbers, phase: usize, flip: bool, zeros: usize, ones: usize) -> Effect
+    requires { ⌜ Bounds numbers ⌝ }
+    ensures { λ r. ⌜ r ≡ require (ltb phase (numbers .phases)) PhasesUsedUp (Send States (suc phase) (Say (picked 1 zeros ones false true flip))) ⌝ }
 {
     if numbers.phases <= phase {
         return Effect::Refuse(Refusal::PhasesUsedUp);
     }
-    let state = next_state(numbers, who, slot, phase, flip, proposals, ballots, heard);
     Effect::Send {
         sort: Sort::States,
         phase: phase + 1,
-        word: Word::Say(state),
+        word: Word::Say(next_state(flip, zeros, ones)),
     }
 }
 
@@ -275,7 +176,7 @@ fn vote_rule(
     requires { ⌜ SeatIn numbers who Votes slot phase (now proposals) (now ballots) (now heard) ⌝ }
     ensures { λ r. ⌜ r ≡ vote-rule numbers flip (ears numbers who slot phase (now (proposals .entry)) (now (ballots .entry)) (now (heard .entry))) ⌝ }
 {
-    let enough = heard_count(
+    let count = count_heard(
         numbers,
         who,
         Sort::Votes,
@@ -285,10 +186,10 @@ fn vote_rule(
         ballots,
         heard,
     );
-    if enough < numbers.n - numbers.f {
+    if count.all < numbers.n - numbers.f {
         return Effect::Refuse(Refusal::TooFewHeard);
     }
-    let o = outcome_of(numbers, who, slot, phase, proposals, ballots, heard);
+    let o = outcome_of(numbers, count.zeros, count.ones);
     match o {
         Outcome::Decided(v) => {
             if v {
@@ -296,7 +197,7 @@ fn vote_rule(
             }
             Effect::Close(0)
         }
-        Outcome::Undecided => go_on(numbers, who, slot, phase, flip, proposals, ballots, heard),
+        Outcome::Undecided => go_on(numbers, phase, flip, count.zeros, count.ones),
     }
 }
 

@@ -7,13 +7,26 @@ use rules::messages::proposes;
 use rules::messages::says;
 use rules::messages::tag_of;
 ghost use mathlib.Core.Path.{_≡_};
-ghost use mathlib.Core.Bool.{Bool};
-ghost use lib.Dec.{leb};
+ghost use Prim.Native.Nat.{_≤_};
 ghost use Rattle.model.specs.declared.Sort.the-variants.{Proposals};
-ghost use Rattle.model.specs.declared.Word.the-variants.{Tag, Say};
-ghost use Rattle.model.specs.Tests.{if, bit};
-ghost use Rattle.model.specs.Rules.{majority, heard-count, tally, majority-tag};
-ghost use Rattle.tallies.specs.Seat.{Seat, SeatIn, ears};
+ghost use Rattle.model.specs.declared.Word.the-variants.{Tag};
+ghost use Rattle.model.specs.Tests.{bit};
+ghost use Rattle.model.specs.Rules.{tally, majority-tag};
+ghost use Rattle.tallies.specs.Seat.{SeatIn, ears};
+ghost use Rattle.tallies.specs.Counts.{Counted, backed, Leading};
+
+// Of the messages heard: all, those that say 0, those that say 1.
+pub struct Count {
+    pub all: usize,
+    pub zeros: usize,
+    pub ones: usize,
+}
+
+// The tag that leads so far, and by how many.
+struct Lead {
+    tag: u64,
+    by: usize,
+}
 
 fn one(b: bool) -> usize
     ensures { λ r. ⌜ r ≡ bit b ⌝ }
@@ -24,7 +37,8 @@ fn one(b: bool) -> usize
     0
 }
 
-pub fn heard_count(
+// All three are counted in one pass.
+pub fn count_heard(
     numbers: Numbers,
     who: usize,
     sort: Sort,
@@ -33,12 +47,14 @@ pub fn heard_count(
     proposals: &[u64],
     ballots: &[u8],
     heard: &[u16],
-) -> usize
+) -> Count
     requires { ⌜ SeatIn numbers who sort slot phase (now proposals) (now ballots) (now heard) ⌝ }
-    ensures { λ r. ⌜ r ≡ heard-count numbers (ears numbers who slot phase (now (proposals .entry)) (now (ballots .entry)) (now (heard .entry))) sort phase ⌝ }
+    ensures { λ r. ⌜ Counted numbers (ears numbers who slot phase (now (proposals .entry)) (now (ballots .entry)) (now (heard .entry))) sort phase r ⌝ }
 {
     let n = numbers.n;
-    let mut total = 0;
+    let mut all = 0;
+    let mut zeros = 0;
+    let mut ones = 0;
     let mut i = 0;
     while i < n {
         let word = heard_word(
@@ -52,46 +68,12 @@ pub fn heard_count(
             ballots,
             heard,
         );
-        total += one(is_sent(word));
+        all += one(is_sent(word));
+        zeros += one(says(false, word));
+        ones += one(says(true, word));
         i += 1;
     }
-    total
-}
-
-// How many say the bit.
-pub fn bit_tally(
-    numbers: Numbers,
-    who: usize,
-    sort: Sort,
-    slot: usize,
-    phase: usize,
-    said: bool,
-    proposals: &[u64],
-    ballots: &[u8],
-    heard: &[u16],
-) -> usize
-    requires { ⌜ SeatIn numbers who sort slot phase (now proposals) (now ballots) (now heard) ⌝ }
-    ensures { λ r. ⌜ r ≡ tally numbers (ears numbers who slot phase (now (proposals .entry)) (now (ballots .entry)) (now (heard .entry))) sort phase (Say said) ⌝ }
-{
-    let n = numbers.n;
-    let mut total = 0;
-    let mut i = 0;
-    while i < n {
-        let word = heard_word(
-            numbers,
-            who,
-            sort,
-            slot,
-            phase,
-            i,
-            proposals,
-            ballots,
-            heard,
-        );
-        total += one(says(said, word));
-        i += 1;
-    }
-    total
+    Count { all, zeros, ones }
 }
 
 // How many propose the tag.
@@ -128,28 +110,58 @@ fn tag_tally(
     total
 }
 
-// The tag if it has a majority, else the best so far, which is counted no second time.
-fn leader(
+// A tag against the leading one.
+fn back(lead: Lead, x: u64) -> Lead
+    requires { ⌜ lead .by ≤ 15 ⌝ }
+    ensures { λ r. ⌜ r ≡ backed lead x ⌝ }
+{
+    if lead.by == 0 {
+        return Lead { tag: x, by: 1 };
+    }
+    if x == lead.tag {
+        return Lead {
+            tag: lead.tag,
+            by: lead.by + 1,
+        };
+    }
+    Lead {
+        tag: lead.tag,
+        by: lead.by - 1,
+    }
+}
+
+// The only tag that can have a majority. Each sender that backs the leading tag is set off against one that doesn't (the
+// majority vote of Boyer and Moore), so that no tag is counted for each sender.
+fn leading_tag(
     numbers: Numbers,
     who: usize,
     slot: usize,
-    tag: u64,
-    best: u64,
     proposals: &[u64],
     ballots: &[u8],
     heard: &[u16],
 ) -> u64
     requires { ⌜ SeatIn numbers who Proposals slot 0 (now proposals) (now ballots) (now heard) ⌝ }
-    ensures { λ r. ⌜ r ≡ if (leb (majority numbers) (tally numbers (ears numbers who slot 0 (now (proposals .entry)) (now (ballots .entry)) (now (heard .entry))) Proposals 0 (Tag tag))) tag best ⌝ }
+    ensures { λ r. ⌜ Leading numbers (ears numbers who slot 0 (now (proposals .entry)) (now (ballots .entry)) (now (heard .entry))) r ⌝ }
 {
-    if tag == best {
-        return best;
+    let n = numbers.n;
+    let mut lead = Lead { tag: 0, by: 0 };
+    let mut i = 0;
+    while i < n {
+        let word = heard_word(
+            numbers,
+            who,
+            Sort::Proposals,
+            slot,
+            0,
+            i,
+            proposals,
+            ballots,
+            heard,
+        );
+        lead = back(lead, tag_of(word));
+        i += 1;
     }
-    let votes = tag_tally(numbers, who, slot, tag, proposals, ballots, heard);
-    if numbers.n / 2 + 1 <= votes {
-        return tag;
-    }
-    best
+    lead.tag
 }
 
 // The tag that has a majority among the proposals heard, 0 if none has.
@@ -164,24 +176,10 @@ pub fn majority_tag(
     requires { ⌜ SeatIn numbers who Proposals slot 0 (now proposals) (now ballots) (now heard) ⌝ }
     ensures { λ r. ⌜ r ≡ majority-tag numbers (ears numbers who slot 0 (now (proposals .entry)) (now (ballots .entry)) (now (heard .entry))) ⌝ }
 {
-    let n = numbers.n;
-    let mut best = 0;
-    let mut i = 0;
-    while i < n {
-        let word = heard_word(
-            numbers,
-            who,
-            Sort::Proposals,
-            slot,
-            0,
-            i,
-            proposals,
-            ballots,
-            heard,
-        );
-        let tag = tag_of(word);
-        best = leader(numbers, who, slot, tag, best, proposals, ballots, heard);
-        i += 1;
+    let tag = leading_tag(numbers, who, slot, proposals, ballots, heard);
+    let votes = tag_tally(numbers, who, slot, tag, proposals, ballots, heard);
+    if numbers.n / 2 + 1 <= votes {
+        return tag;
     }
-    best
+    0
 }

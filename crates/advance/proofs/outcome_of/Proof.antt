@@ -8,22 +8,14 @@ use Rattle.advance.proofs.outcome_of.Tie as tie
 add-enough : tie.Need-add-enough
 add-enough c = search needs
 
-bit-tally-requires : tie.Need-bit-tally-requires
-bit-tally-requires c κs = search needs
-
 returns : tie.Need-returns
-returns c = on-zeros _ _ _ (Decided false) (Decided true) Undecided (c .before .bit-tally .ensures) (c .if1 .taken)
-
-bit-tally-requires-2 : tie.Need-bit-tally-requires-2
-bit-tally-requires-2 c κs = search needs
+returns c = on-zeros _ _ _ (Decided false) (Decided true) Undecided (c .if1 .taken)
 
 returns-2 : tie.Need-returns-2
-returns-2 c = on-ones _ _ _ (Decided false) (Decided true) Undecided (c .before .before .before .bit-tally .ensures) (c .before .before .if1 .left) (c .before .bit-tally2 .ensures) (c .if2 .taken)
+returns-2 c = on-ones _ _ _ (Decided false) (Decided true) Undecided (c .before .if1 .left) (c .if2 .taken)
 
 returns-3 : tie.Need-returns-3
-returns-3 c = on-neither _ _ _ (Decided false) (Decided true) Undecided (c .before .before .before .bit-tally .ensures) (c .before .before .if1 .left) (c .before .bit-tally2 .ensures) (c .if2 .left)
+returns-3 c = on-neither _ _ _ (Decided false) (Decided true) Undecided (c .before .if1 .left) (c .if2 .left)
 
 pub outcome-of-spec : {M : Type 1} → statement M
-outcome-of-spec =
-    tie.close
-    (tie.spec add-enough bit-tally-requires returns bit-tally-requires-2 returns-2 returns-3)
+outcome-of-spec = tie.close (tie.spec add-enough returns returns-2 returns-3)
