@@ -11,8 +11,6 @@ use borrow.Author.Tests.{leb-true, ltb-true, ltb-false, le-leb, lt-leb, lt-ltb, 
 use mathlib.Core.Logic.{_≢_}
 use Rattle.model.specs.declared.Numbers.{Numbers}
 use Rattle.model.specs.declared.ReplicaId.{ReplicaId}
-use Rattle.model.specs.declared.SlotIndex.{SlotIndex}
-use Rattle.model.specs.declared.PhaseIndex.{PhaseIndex}
 use Rattle.model.specs.declared.Sort.{Sort}
 use Rattle.model.specs.declared.Refusal.{Refusal}
 use Rattle.model.specs.declared.Round.{Round}
@@ -23,6 +21,7 @@ use Rattle.model.specs.declared.Effect.the-variants.{Refuse, Halt}
 use Rattle.model.specs.declared.Step.{Step}
 use Rattle.model.specs.declared.Step.the-variants.{Submit, Relay, Begin, Hear, Advance, Crash}
 use Rattle.tables.specs.declared.Record.{Record}
+use Rattle.tables.specs.declared.Lengths.{Lengths}
 use Rattle.vetting.specs.declared.Vetted.{Vetted}
 use Rattle.vetting.specs.declared.Vetted.the-variants.{Turned, Passed}
 use Rattle.model.specs.Tests.{if}
@@ -30,17 +29,19 @@ use Rattle.model.specs.Limits.{limited}
 use Rattle.model.specs.Coins.{coin}
 use Rattle.model.specs.Rack.{sort-of, Messages, Replica, fresh-replica}
 use Rattle.model.specs.Rules.{require, submit-rule, relay-rule, begin-rule, hear-rule, advance-rule, present, with-strip, decide}
-use Rattle.model.proofs.Cases.{any-false, or-false, never}
+use Rattle.model.specs.History.{acting}
+use Rattle.model.proofs.Cases.{clash, any-false, or-false, never}
 use Rattle.tables.specs.Layout.{Tables, record-at, records-need}
 use Rattle.tables.specs.Bounds.{bounds, is-long}
-use Rattle.tables.specs.View.{below, round-in, guarded, sent-words, inbox-in, replica-at, view}
+use Rattle.tables.specs.View.{below, round-in, guarded, inbox-in, replica-at, view}
 use Rattle.tables.specs.Checks.{lengths, long, misplaced, spoiled, spoiled-at, any-spoiled, checked}
 use Rattle.tables.specs.Calls.{crash-judged, judge}
 use Rattle.vetting.specs.Vet.{behind, gate}
 use Rattle.messages.specs.Reach.{Reach, listener}
 use Rattle.advance.proofs.RuleLaws.{slot-low}
 use Rattle.known.specs.Room.{Desk, holder}
-use Rattle.writing.specs.Doable.{Ready}
+use Rattle.writing.specs.Doable.{Ready, Placed}
+use Rattle.judging.specs.Rule.{Admitted, other, crashes, begin-at, advance-at, ruled}
 use Rattle.judging.proofs.AlikeLaws.{advance-alike}
 
 -- ---- behind the gate
@@ -72,17 +73,11 @@ ready N c t a k l h = let b = bounds N a in let s = is-long N (lengths t) l in r
   logs = s .logs;
 }
 
--- all that a step knows that passed
-pub record Let (N : Numbers) (c d : ℕ) (t : Tables) : Type 0 where
-  pub ready : Ready N c t
-  pub other : d < N .n
-  pub stands : misplaced N (round-in (record-at (t .records) c .round)) (record-at (t .records) c .slot) (record-at (t .records) c .phase) ≡ false
-
 module _ (N : Numbers) (c d : ℕ) (t : Tables) (st : ℕ) where
   abbrev Gate : Effect → Effect
   Gate e = gate N c d (lengths t) st (t .known) (t .records) e
 
-  let-through : Gate Halt ≡ Halt → Let N c d t
+  let-through : Gate Halt ≡ Halt → Admitted N c d t
   unfolding gate
   let-through q =
       let (a, q₁) = require-halt (limited N) _ _ q in
@@ -99,16 +94,21 @@ module _ (N : Numbers) (c d : ℕ) (t : Tables) (st : ℕ) where
         stands = stands N (t .records) c (is-long N (lengths t) l .records) here (not-true _ s);
       }
 
+  -- what the code has vetted, by the step's replicas and the lengths of the tables
+  pub vetted-as : (v : Vetted) {w o : ℕ} {l : Lengths} → w ≡ c → o ≡ d → l ≡ lengths t
+      → ((e : Effect) → behind v e ≡ gate N w o l st (t .known) (t .records) e) → (e : Effect) → behind v e ≡ Gate e
+  vetted-as v w o l h e = h e ∙ (λ i. gate N (w i) (o i) (l i) st (t .known) (t .records) e)
+
   module _ {v : Vetted} (vetted : (e : Effect) → behind v e ≡ Gate e) where
-    pub passed : v ≡ Passed → Let N c d t
+    pub passed : v ≡ Passed → Admitted N c d t
     passed h = let-through (sym (subst (λ (v : Vetted). behind v Halt ≡ Gate Halt) h (vetted Halt)))
 
     -- the first refusals, and the rule behind them
     pub turned : {why : Refusal} (x : Effect) {y : Effect} → v ≡ Turned why → y ≡ Gate x → Refuse why ≡ y
     turned {why} x h q = subst (λ (v : Vetted). behind v x ≡ Gate x) h (vetted x) ∙ sym q
 
-    pub ruled : {x y r : Effect} → v ≡ Passed → y ≡ Gate x → r ≡ x → r ≡ y
-    ruled {x} h q e = e ∙ subst (λ (v : Vetted). behind v x ≡ Gate x) h (vetted x) ∙ sym q
+    pub ruled-behind : {x y r : Effect} → v ≡ Passed → y ≡ Gate x → r ≡ x → r ≡ y
+    ruled-behind {x} h q e = e ∙ subst (λ (v : Vetted). behind v x ≡ Gate x) h (vetted x) ∙ sym q
 
 -- ---- `judge`, gate by gate
 
@@ -142,47 +142,50 @@ module _ (N : Numbers) (strip : List ℕ) (t : Tables) (c : ℕ) (f : Replica �
   unfolding gate
   gated-with d = ap (λ (e : Effect). checked N t (with-strip N strip (require (ltb d n) NoSuchReplica e))) at-most-once
 
-module _ (N : Numbers) (strip : List ℕ) (t : Tables) (c : ReplicaId) where
-  abbrev Behind : Step → Effect → Type 0
-  Behind a e = judge N strip a t ≡ gate N (c .0) (c .0) (lengths t) (length strip) (t .known) (t .records) e
+module _ (N : Numbers) (strip : List ℕ) (t : Tables) where
+  abbrev known-tags : List ℕ
+  known-tags = take (t .known) (t .tags)
 
-  pub submit-gated : (x : ℕ) → Behind (Submit c x) (submit-rule (N .room) (take (t .known) (t .tags)) (replica-at N t (c .0)) x)
-  unfolding judge decide
-  submit-gated x = gated N strip t (c .0) (λ k. submit-rule (N .room) (take (t .known) (t .tags)) k x)
+  pub behind-gate : (a : Step) → crashes a ≡ false → judge N strip a t ≡ gate N (acting a) (other a) (lengths t) (length strip) (t .known) (t .records) (ruled N strip a t)
+  unfolding judge decide ruled
+  behind-gate (Submit c x) e = gated N strip t (c .0) (λ k. submit-rule (N .room) known-tags k x)
+  behind-gate (Relay c x) e = gated N strip t (c .0) (λ k. relay-rule known-tags k x)
+  behind-gate (Begin c) e = gated N strip t (c .0) (λ k. begin-rule (N .slots) known-tags k)
+  behind-gate (Hear c d so s p) e = gated-with N strip t (c .0) (λ k. hear-rule N (view N t .sent) k (d .0) (s .0) (p .0) (sort-of so)) (d .0)
+  behind-gate (Advance c) e = gated N strip t (c .0) (λ k. advance-rule N (coin (N .phases) strip (k .closed) (k .phase)) k (k .round))
+  behind-gate (Crash c) e = absurd (false≢true (sym e))
 
-  pub relay-gated : (x : ℕ) → Behind (Relay c x) (relay-rule (take (t .known) (t .tags)) (replica-at N t (c .0)) x)
-  unfolding judge decide
-  relay-gated x = gated N strip t (c .0) (λ k. relay-rule (take (t .known) (t .tags)) k x)
-
-  pub begin-gated : Behind (Begin c) (begin-rule (N .slots) (take (t .known) (t .tags)) (replica-at N t (c .0)))
-  unfolding judge decide
-  begin-gated = gated N strip t (c .0) (λ k. begin-rule (N .slots) (take (t .known) (t .tags)) k)
-
-  pub advance-gated : Behind (Advance c) (let k = replica-at N t (c .0) in advance-rule N (coin (N .phases) strip (k .closed) (k .phase)) k (k .round))
-  unfolding judge decide
-  advance-gated = gated N strip t (c .0) (λ k. advance-rule N (coin (N .phases) strip (k .closed) (k .phase)) k (k .round))
-
-  pub hear-gated : (d : ReplicaId) (so : ℕ) (s : SlotIndex) (p : PhaseIndex) → judge N strip (Hear c d so s p) t
-      ≡ gate N (c .0) (d .0) (lengths t) (length strip) (t .known) (t .records)
-      (hear-rule N (guarded N (sent-words N (t .proposals) (t .ballots))) (replica-at N t (c .0)) (d .0) (s .0) (p .0) (sort-of so))
-  unfolding judge decide
-  hear-gated d so s p = gated-with N strip t (c .0) (λ k. hear-rule N (view N t .sent) k (d .0) (s .0) (p .0) (sort-of so)) (d .0)
+  pub crash-alike : (a : Step) {c : ReplicaId} {r : Effect} → crashes a ≡ true → c .0 ≡ acting a → r ≡ judge N strip (Crash c) t → r ≡ judge N strip a t
+  crash-alike (Submit c x) e w q = clash e
+  crash-alike (Relay c x) e w q = clash e
+  crash-alike (Begin c) e w q = clash e
+  crash-alike (Hear c d so s p) e w q = clash e
+  crash-alike (Advance c) e w q = clash e
+  crash-alike (Crash c) e w q = q ∙ (λ i. judge N strip (Crash (record { 0 = w i })) t)
 
 -- ---- what the rules behind the gate ask
 
-module _ {N : Numbers} {c d : ℕ} {t : Tables} (l : Let N c d t) where
+module _ (N : Numbers) (t : Tables) {a a′ : Step} (e : a ≡ a′) where
+  -- the step that the code has matched
+  pub admitted-as : Admitted N (acting a) (other a) t → Admitted N (acting a′) (other a′) t
+  admitted-as l = subst (λ (a : Step). Admitted N (acting a) (other a) t) e l
+
+  pub ruled-as : (strip : List ℕ) {r : Effect} → r ≡ ruled N strip a′ t → r ≡ ruled N strip a t
+  ruled-as strip q = q ∙ ap (λ (a : Step). ruled N strip a t) (sym e)
+
+module _ {N : Numbers} {c d : ℕ} {t : Tables} (l : Admitted N c d t) where
   pub desk : Desk N c (t .known) (t .tags) (t .holders) (t .logs)
   desk = record { who = l .ready .who; room = l .ready .room; logs = l .ready .logs }
 
   pub reach : Reach N (t .proposals) (t .ballots) (t .heard)
   reach = record { bounds = l .ready .bounds; proposals = l .ready .proposals; ballots = l .ready .ballots; heard = l .ready .heard }
 
-  pub loads : (c < 16) × (4 * c + 4 ≤ length (t .records))
-  loads = let a = l .ready .who in let b = l .ready .bounds .few in let r = l .ready .records in (omega arith, omega arith)
+  pub placed : Placed c (t .records)
+  placed = let a = l .ready .who in let b = l .ready .bounds .few in let r = l .ready .records in record { few = omega arith; there = omega arith }
 
-  pub closed-low : {k : Record} → k ≡ record-at (t .records) c → k .slot ≤ N .slots
+  pub closed-low : record-at (t .records) c .slot ≤ N .slots
   unfolding misplaced
-  closed-low e = subst (λ (k : Record). k .slot ≤ N .slots) (sym e) (go (round-in (record-at (t .records) c .round)) (l .stands))
+  closed-low = go (round-in (record-at (t .records) c .round)) (l .stands)
     where
       go : (a : Round) → misplaced N a (record-at (t .records) c .slot) (record-at (t .records) c .phase) ≡ false → record-at (t .records) c .slot ≤ N .slots
       go Idle q = ltb-false _ _ q
@@ -191,18 +194,10 @@ module _ {N : Numbers} {c d : ℕ} {t : Tables} (l : Let N c d t) where
       go Vote q = let h = slot-low N (record-at (t .records) c .slot) (record-at (t .records) c .phase) Vote (λ z. never cc) q in omega arith
       go Find q = let h = slot-low N (record-at (t .records) c .slot) (record-at (t .records) c .phase) Find (λ z. never cc) q in omega arith
 
-  pub stands-as : {k : Record} {a : Round} → k ≡ record-at (t .records) c → a ≡ round-in (k .round) → misplaced N a (k .slot) (k .phase) ≡ false
-  stands-as {k} {a} e q = (λ i. misplaced N (q i) (k .slot) (k .phase)) ∙ (λ i. misplaced N (round-in (e i .round)) (e i .slot) (e i .phase)) ∙ l .stands
-
   -- the code's advance is the view's
-  pub advances : (strip : List ℕ) {k : Record} {a : Round} {flip : Bool} {r : Effect} → k ≡ record-at (t .records) c → a ≡ round-in (k .round)
-      → flip ≡ coin (N .phases) strip (k .slot) (k .phase) → r ≡ advance-rule N flip (listener (k .slot) (k .phase) (inbox-in N (t .proposals) (t .ballots) (t .heard) c)) a
+  pub advances : (strip : List ℕ) {r : Effect} → r ≡ advance-at N strip c (record-at (t .records) c) (t .proposals) (t .ballots) (t .heard)
       → r ≡ (let k = replica-at N t c in advance-rule N (coin (N .phases) strip (k .closed) (k .phase)) k (k .round))
-  advances strip {k} {a} {flip} e q g h =
-      let m = inbox-in N (t .proposals) (t .ballots) (t .heard) c in
-      h ∙ (λ i. advance-rule N (g i) (listener (k .slot) (k .phase) m) (q i))
-      ∙ (λ i. advance-rule N (coin (N .phases) strip (e i .slot) (e i .phase)) (listener (e i .slot) (e i .phase) m) (round-in (e i .round)))
-      ∙ advance-alike N (record-at (t .records) c) _ _ m _ _ (l .stands)
+  advances strip q = q ∙ advance-alike N (record-at (t .records) c) _ _ (inbox-in N (t .proposals) (t .ballots) (t .heard) c) _ _ (l .stands)
 
   -- a hear looks at the inbox alone
   pub hears : (sent : Messages) (s p : ℕ) (so : Option Sort) {r : Effect}
@@ -211,12 +206,21 @@ module _ {N : Numbers} {c d : ℕ} {t : Tables} (l : Let N c d t) where
   hears sent s p none q = q
   hears sent s p (just so) q = q
 
-  pub begins : {k : Record} {a : Round} {r : Effect} → k ≡ record-at (t .records) c → a ≡ round-in (k .round)
-      → r ≡ begin-rule (N .slots) (take (t .known) (t .tags)) (holder N c a (k .slot) (t .known) (t .tags) (t .holders) (t .logs))
-      → r ≡ begin-rule (N .slots) (take (t .known) (t .tags)) (replica-at N t c)
-  begins {k} {a} e q h =
-      h ∙ (λ i. begin-rule (N .slots) (take (t .known) (t .tags)) (holder N c (q i) (k .slot) (t .known) (t .tags) (t .holders) (t .logs)))
-      ∙ (λ i. begin-rule (N .slots) (take (t .known) (t .tags)) (holder N c (round-in (e i .round)) (e i .slot) (t .known) (t .tags) (t .holders) (t .logs)))
+-- ---- by the replica's record, as the code has loaded it
+
+module _ (N : Numbers) {k k′ : Record} {a : Round} (e : k ≡ k′) (q : a ≡ round-in (k .round)) where
+  pub stands-as : misplaced N (round-in (k′ .round)) (k′ .slot) (k′ .phase) ≡ false → misplaced N a (k .slot) (k .phase) ≡ false
+  stands-as h = (λ i. misplaced N (q i) (k .slot) (k .phase)) ∙ (λ i. misplaced N (round-in (e i .round)) (e i .slot) (e i .phase)) ∙ h
+
+  module _ (c : ℕ) where
+    pub begin-as : (known : ℕ) (ts hs ls : List ℕ) {r : Effect} → r ≡ begin-rule (N .slots) (take known ts) (holder N c a (k .slot) known ts hs ls) → r ≡ begin-at N c k′ known ts hs ls
+    begin-as known ts hs ls h =
+        h ∙ (λ i. begin-rule (N .slots) (take known ts) (holder N c (q i) (k .slot) known ts hs ls)) ∙ (λ i. begin-at N c (e i) known ts hs ls)
+
+    pub advance-as : (strip ps bs es : List ℕ) {flip : Bool} {r : Effect} → flip ≡ coin (N .phases) strip (k .slot) (k .phase)
+        → r ≡ advance-rule N flip (listener (k .slot) (k .phase) (inbox-in N ps bs es c)) a → r ≡ advance-at N strip c k′ ps bs es
+    advance-as strip ps bs es g h =
+        h ∙ (λ i. advance-rule N (g i) (listener (k .slot) (k .phase) (inbox-in N ps bs es c)) (q i)) ∙ (λ i. advance-at N strip c (e i) ps bs es)
 
 -- ---- a crash
 

@@ -1,4 +1,5 @@
-// What a step comes to on the tables: it looks, and changes nothing.
+// What a step comes to on the tables: it looks, and changes nothing. The first refusals are asked at one place for every step but
+// a crash.
 use advance::advance_rule;
 use cells::records::load;
 use cells::records::record_spoiled;
@@ -20,12 +21,75 @@ use tables::Lengths;
 use vetting::Vetted;
 use vetting::vet;
 ghost use mathlib.Core.Path.{_≡_};
-ghost use lib.ListN.{length};
-ghost use Rattle.model.specs.declared.Effect.{Effect};
-ghost use Rattle.model.specs.declared.Step.the-variants.{Submit, Relay, Begin, Hear, Advance, Crash};
-ghost use Rattle.tables.specs.Checks.{lengths};
+ghost use mathlib.Core.Bool.{false};
+ghost use Prim.Native.Nat.{_<_, _≤_};
+ghost use Rattle.model.specs.declared.Step.the-variants.{Crash};
+ghost use Rattle.model.specs.History.{acting};
+ghost use Rattle.tables.specs.Layout.{record-at};
+ghost use Rattle.tables.specs.View.{round-in};
+ghost use Rattle.tables.specs.Checks.{lengths, misplaced};
 ghost use Rattle.tables.specs.Calls.{tables, judge};
-ghost use Rattle.vetting.specs.Vet.{behind, gate};
+ghost use Rattle.messages.specs.Reach.{Reach};
+ghost use Rattle.known.specs.Room.{Desk};
+ghost use Rattle.writing.specs.Doable.{Placed};
+ghost use Rattle.judging.specs.Rule.{Admitted, other, crashes, begin-at, advance-at, ruled};
+
+pub fn acting_of(step: Step) -> usize
+    ensures { λ r. ⌜ r ≡ acting step ⌝ }
+{
+    match step {
+        Step::Submit(who, _) => who.0,
+        Step::Relay(who, _) => who.0,
+        Step::Begin(who) => who.0,
+        Step::Hear {
+            receiver,
+            sender: _,
+            sort: _,
+            slot: _,
+            phase: _,
+        } => receiver.0,
+        Step::Advance(who) => who.0,
+        Step::Crash(who) => who.0,
+    }
+}
+
+fn other_of(step: Step) -> usize
+    ensures { λ r. ⌜ r ≡ other step ⌝ }
+{
+    match step {
+        Step::Submit(who, _) => who.0,
+        Step::Relay(who, _) => who.0,
+        Step::Begin(who) => who.0,
+        Step::Hear {
+            receiver: _,
+            sender,
+            sort: _,
+            slot: _,
+            phase: _,
+        } => sender.0,
+        Step::Advance(who) => who.0,
+        Step::Crash(who) => who.0,
+    }
+}
+
+fn is_crash(step: Step) -> bool
+    ensures { λ r. ⌜ r ≡ crashes step ⌝ }
+{
+    match step {
+        Step::Submit(_, _) => false,
+        Step::Relay(_, _) => false,
+        Step::Begin(_) => false,
+        Step::Hear {
+            receiver: _,
+            sender: _,
+            sort: _,
+            slot: _,
+            phase: _,
+        } => false,
+        Step::Advance(_) => false,
+        Step::Crash(_) => true,
+    }
+}
 
 fn measure(
     records: &[u16],
@@ -50,40 +114,65 @@ fn measure(
     }
 }
 
-// Refusals 3, 2, 4, 5. `who` acts; `other` is a second replica that the step names, or `who` again.
-fn admit(
+fn begin_here(
     numbers: Numbers,
     who: usize,
-    other: usize,
     records: &[u16],
     known: &u16,
     tags: &[u64],
     holders: &[u16],
+    logs: &[u64],
+) -> Effect
+    requires { ⌜ (Placed who (now records)) × (record-at (now records) who .slot ≤ numbers .slots) × (Desk numbers who (now known) (now tags) (now holders) (now logs)) ⌝ }
+    ensures { λ r. ⌜ r ≡ begin-at numbers who (record-at (now (records .entry)) who) (now (known .entry)) (now (tags .entry)) (now (holders .entry)) (now (logs .entry)) ⌝ }
+{
+    let k = load(records, who);
+    begin_rule(
+        numbers,
+        who,
+        round_in(k.round),
+        k.slot as usize,
+        *known as usize,
+        tags,
+        holders,
+        logs,
+    )
+}
+
+fn advance_here(
+    numbers: Numbers,
+    who: usize,
+    records: &[u16],
     proposals: &[u64],
     ballots: &[u8],
     heard: &[u16],
-    logs: &[u64],
     strip: &[u8],
-) -> Vetted
-    ensures { λ r. ⌜ ((e : Effect) → behind r e ≡ gate numbers who other (lengths (tables (now (records .entry)) (now (known .entry)) (now (tags .entry)) (now (holders .entry)) (now (proposals .entry)) (now (ballots .entry)) (now (heard .entry)) (now (logs .entry)))) (length (now (strip .entry))) (now (known .entry)) (now (records .entry)) e) ⌝ }
+) -> Effect
+    requires { ⌜ (Placed who (now records)) × (who < numbers .n) × (Reach numbers (now proposals) (now ballots) (now heard))
+        × (misplaced numbers (round-in (record-at (now records) who .round)) (record-at (now records) who .slot) (record-at (now records) who .phase) ≡ false) ⌝ }
+    ensures { λ r. ⌜ r ≡ advance-at numbers (now (strip .entry)) who (record-at (now (records .entry)) who) (now (proposals .entry)) (now (ballots .entry)) (now (heard .entry)) ⌝ }
 {
-    let sizes = measure(
-        records,
-        known,
-        tags,
-        holders,
+    let k = load(records, who);
+    let slot = k.slot as usize;
+    let phase = k.phase as usize;
+    let flip = coin_of(numbers.phases, strip, SlotIndex(slot), PhaseIndex(phase));
+    advance_rule(
+        numbers,
+        who,
+        round_in(k.round),
+        slot,
+        phase,
+        flip,
         proposals,
         ballots,
         heard,
-        logs,
-    );
-    vet(numbers, who, other, sizes, strip.len(), *known, records)
+    )
 }
 
-fn judge_submit(
+// The rule of a step that passed the first refusals.
+fn rule_of(
+    step: Step,
     numbers: Numbers,
-    who: ReplicaId,
-    tag: u64,
     records: &[u16],
     known: &u16,
     tags: &[u64],
@@ -94,150 +183,38 @@ fn judge_submit(
     logs: &[u64],
     strip: &[u8],
 ) -> Effect
-    ensures { λ r. ⌜ r ≡ judge numbers (now (strip .entry)) (Submit who tag) (tables (now (records .entry)) (now (known .entry)) (now (tags .entry)) (now (holders .entry)) (now (proposals .entry)) (now (ballots .entry)) (now (heard .entry)) (now (logs .entry))) ⌝ }
+    requires { ⌜ Admitted numbers (acting step) (other step) (tables (now records) (now known) (now tags) (now holders) (now proposals) (now ballots) (now heard) (now logs)) ⌝ }
+    ensures { λ r. ⌜ r ≡ ruled numbers (now (strip .entry)) step (tables (now (records .entry)) (now (known .entry)) (now (tags .entry)) (now (holders .entry)) (now (proposals .entry)) (now (ballots .entry)) (now (heard .entry)) (now (logs .entry))) ⌝ }
 {
-    let first = admit(
-        numbers,
-        who.0,
-        who.0,
-        records,
-        known,
-        tags,
-        holders,
-        proposals,
-        ballots,
-        heard,
-        logs,
-        strip,
-    );
-    match first {
-        Vetted::Turned(why) => Effect::Refuse(why),
-        Vetted::Passed => submit_rule(numbers, who.0, tag, *known as usize, tags, holders, logs),
-    }
-}
-
-fn judge_relay(
-    numbers: Numbers,
-    who: ReplicaId,
-    tag: u64,
-    records: &[u16],
-    known: &u16,
-    tags: &[u64],
-    holders: &[u16],
-    proposals: &[u64],
-    ballots: &[u8],
-    heard: &[u16],
-    logs: &[u64],
-    strip: &[u8],
-) -> Effect
-    ensures { λ r. ⌜ r ≡ judge numbers (now (strip .entry)) (Relay who tag) (tables (now (records .entry)) (now (known .entry)) (now (tags .entry)) (now (holders .entry)) (now (proposals .entry)) (now (ballots .entry)) (now (heard .entry)) (now (logs .entry))) ⌝ }
-{
-    let first = admit(
-        numbers,
-        who.0,
-        who.0,
-        records,
-        known,
-        tags,
-        holders,
-        proposals,
-        ballots,
-        heard,
-        logs,
-        strip,
-    );
-    match first {
-        Vetted::Turned(why) => Effect::Refuse(why),
-        Vetted::Passed => relay_rule(numbers, who.0, tag, *known as usize, tags, holders, logs),
-    }
-}
-
-fn judge_begin(
-    numbers: Numbers,
-    who: ReplicaId,
-    records: &[u16],
-    known: &u16,
-    tags: &[u64],
-    holders: &[u16],
-    proposals: &[u64],
-    ballots: &[u8],
-    heard: &[u16],
-    logs: &[u64],
-    strip: &[u8],
-) -> Effect
-    ensures { λ r. ⌜ r ≡ judge numbers (now (strip .entry)) (Begin who) (tables (now (records .entry)) (now (known .entry)) (now (tags .entry)) (now (holders .entry)) (now (proposals .entry)) (now (ballots .entry)) (now (heard .entry)) (now (logs .entry))) ⌝ }
-{
-    let first = admit(
-        numbers,
-        who.0,
-        who.0,
-        records,
-        known,
-        tags,
-        holders,
-        proposals,
-        ballots,
-        heard,
-        logs,
-        strip,
-    );
-    match first {
-        Vetted::Turned(why) => Effect::Refuse(why),
-        Vetted::Passed => {
-            let k = load(records, who.0);
-            let round = round_in(k.round);
-            begin_rule(
-                numbers,
-                who.0,
-                round,
-                k.slot as usize,
-                *known as usize,
-                tags,
-                holders,
-                logs,
-            )
-        },
-    }
-}
-
-fn judge_hear(
-    numbers: Numbers,
-    who: ReplicaId,
-    sender: ReplicaId,
-    sort: usize,
-    slot: SlotIndex,
-    phase: PhaseIndex,
-    records: &[u16],
-    known: &u16,
-    tags: &[u64],
-    holders: &[u16],
-    proposals: &[u64],
-    ballots: &[u8],
-    heard: &[u16],
-    logs: &[u64],
-    strip: &[u8],
-) -> Effect
-    ensures { λ r. ⌜ r ≡ judge numbers (now (strip .entry)) (Hear who sender sort slot phase) (tables (now (records .entry)) (now (known .entry)) (now (tags .entry)) (now (holders .entry)) (now (proposals .entry)) (now (ballots .entry)) (now (heard .entry)) (now (logs .entry))) ⌝ }
-{
-    let first = admit(
-        numbers,
-        who.0,
-        sender.0,
-        records,
-        known,
-        tags,
-        holders,
-        proposals,
-        ballots,
-        heard,
-        logs,
-        strip,
-    );
-    match first {
-        Vetted::Turned(why) => Effect::Refuse(why),
-        Vetted::Passed => hear_rule(
+    match step {
+        Step::Submit(who, tag) => submit_rule(
             numbers,
             who.0,
+            tag,
+            *known as usize,
+            tags,
+            holders,
+            logs,
+        ),
+        Step::Relay(who, tag) => relay_rule(
+            numbers,
+            who.0,
+            tag,
+            *known as usize,
+            tags,
+            holders,
+            logs,
+        ),
+        Step::Begin(who) => begin_here(numbers, who.0, records, known, tags, holders, logs),
+        Step::Hear {
+            receiver,
+            sender,
+            sort,
+            slot,
+            phase,
+        } => hear_rule(
+            numbers,
+            receiver.0,
             sender.0,
             sort,
             slot.0,
@@ -246,58 +223,16 @@ fn judge_hear(
             ballots,
             heard,
         ),
-    }
-}
-
-fn judge_advance(
-    numbers: Numbers,
-    who: ReplicaId,
-    records: &[u16],
-    known: &u16,
-    tags: &[u64],
-    holders: &[u16],
-    proposals: &[u64],
-    ballots: &[u8],
-    heard: &[u16],
-    logs: &[u64],
-    strip: &[u8],
-) -> Effect
-    ensures { λ r. ⌜ r ≡ judge numbers (now (strip .entry)) (Advance who) (tables (now (records .entry)) (now (known .entry)) (now (tags .entry)) (now (holders .entry)) (now (proposals .entry)) (now (ballots .entry)) (now (heard .entry)) (now (logs .entry))) ⌝ }
-{
-    let first = admit(
-        numbers,
-        who.0,
-        who.0,
-        records,
-        known,
-        tags,
-        holders,
-        proposals,
-        ballots,
-        heard,
-        logs,
-        strip,
-    );
-    match first {
-        Vetted::Turned(why) => Effect::Refuse(why),
-        Vetted::Passed => {
-            let k = load(records, who.0);
-            let round = round_in(k.round);
-            let slot = k.slot as usize;
-            let phase = k.phase as usize;
-            let flip = coin_of(numbers.phases, strip, SlotIndex(slot), PhaseIndex(phase));
-            advance_rule(
-                numbers,
-                who.0,
-                round,
-                slot,
-                phase,
-                flip,
-                proposals,
-                ballots,
-                heard,
-            )
-        },
+        Step::Advance(who) => advance_here(
+            numbers,
+            who.0,
+            records,
+            proposals,
+            ballots,
+            heard,
+            strip,
+        ),
+        Step::Crash(_) => Effect::Halt,
     }
 }
 
@@ -351,11 +286,11 @@ pub fn judge_step(
 ) -> Effect
     ensures { λ r. ⌜ r ≡ judge numbers (now (strip .entry)) step (tables (now (records .entry)) (now (known .entry)) (now (tags .entry)) (now (holders .entry)) (now (proposals .entry)) (now (ballots .entry)) (now (heard .entry)) (now (logs .entry))) ⌝ }
 {
-    match step {
-        Step::Submit(who, tag) => judge_submit(
+    let who = acting_of(step);
+    if is_crash(step) {
+        return judge_crash(
             numbers,
-            who,
-            tag,
+            ReplicaId(who),
             records,
             known,
             tags,
@@ -365,73 +300,31 @@ pub fn judge_step(
             heard,
             logs,
             strip,
-        ),
-        Step::Relay(who, tag) => judge_relay(
+        );
+    }
+    let sizes = measure(
+        records,
+        known,
+        tags,
+        holders,
+        proposals,
+        ballots,
+        heard,
+        logs,
+    );
+    match vet(
+        numbers,
+        who,
+        other_of(step),
+        sizes,
+        strip.len(),
+        *known,
+        records,
+    ) {
+        Vetted::Turned(why) => Effect::Refuse(why),
+        Vetted::Passed => rule_of(
+            step,
             numbers,
-            who,
-            tag,
-            records,
-            known,
-            tags,
-            holders,
-            proposals,
-            ballots,
-            heard,
-            logs,
-            strip,
-        ),
-        Step::Begin(who) => judge_begin(
-            numbers,
-            who,
-            records,
-            known,
-            tags,
-            holders,
-            proposals,
-            ballots,
-            heard,
-            logs,
-            strip,
-        ),
-        Step::Hear {
-            receiver,
-            sender,
-            sort,
-            slot,
-            phase,
-        } => judge_hear(
-            numbers,
-            receiver,
-            sender,
-            sort,
-            slot,
-            phase,
-            records,
-            known,
-            tags,
-            holders,
-            proposals,
-            ballots,
-            heard,
-            logs,
-            strip,
-        ),
-        Step::Advance(who) => judge_advance(
-            numbers,
-            who,
-            records,
-            known,
-            tags,
-            holders,
-            proposals,
-            ballots,
-            heard,
-            logs,
-            strip,
-        ),
-        Step::Crash(who) => judge_crash(
-            numbers,
-            who,
             records,
             known,
             tags,

@@ -17,9 +17,9 @@ use Rattle.model.proofs.Branches.{if-true, if-false}
 use Rattle.model.proofs.Cases.{if-ind, never}
 use Rattle.tables.specs.Layout.{Tables}
 use Rattle.tables.specs.Calls.{judge, performed, advances-on, count-on}
-use Rattle.advancing.specs.declared.Progress.{Progress}
-use Rattle.advancing.specs.declared.Progress.the-variants.{Turned, Closed, Further}
-use Rattle.advancing.specs.Progress.{progress}
+use Rattle.stepping.specs.declared.Progress.{Progress}
+use Rattle.stepping.specs.declared.Progress.the-variants.{Turned, Closed, Further}
+use Rattle.stepping.specs.Progress.{progress}
 use Rattle.rounds.specs.Runs.{Ran as Ran′, ran, runs}
 
 -- ---- how it went

@@ -1,9 +1,10 @@
 // The rounds of a run on: the state round hands over to the vote round, and the vote round back with a later phase. Inner code:
 // no calls of the library.
-use advancing::Progress;
-use advancing::advance_once;
 use model::Numbers;
 use model::ReplicaId;
+use model::Step;
+use stepping::Progress;
+use stepping::do_step;
 ghost use mathlib.Core.Path.{_≡_};
 ghost use Prim.Native.Nat.{_+_, _*_, _≤_};
 ghost use Rattle.tables.specs.Calls.{tables};
@@ -30,9 +31,9 @@ pub fn run_state(
         let after = tables (now (records .exit)) (now (known .exit)) (now (tags .exit)) (now (holders .exit)) (now (proposals .exit)) (now (ballots .exit)) (now (heard .exit)) (now (logs .exit)) in
         ⌜ ran r after ≡ runs numbers (now (strip .entry)) who (2 * left + 1) before ⌝ }
 {
-    let went = advance_once(
+    let went = do_step(
+        Step::Advance(who),
         numbers,
-        who,
         records,
         known,
         tags,
@@ -88,9 +89,9 @@ pub fn run_vote(
     if left == 0 {
         return 0;
     }
-    let went = advance_once(
+    let went = do_step(
+        Step::Advance(who),
         numbers,
-        who,
         records,
         known,
         tags,

@@ -18,9 +18,9 @@ use Rattle.model.proofs.Cases.{never}
 use Rattle.tables.specs.Layout.{Tables}
 use Rattle.tables.specs.Write.{write}
 use Rattle.tables.specs.Calls.{outcome, judge, performed, advances-on, count-on, ran-on}
-use Rattle.advancing.specs.declared.Progress.{Progress}
-use Rattle.advancing.specs.declared.Progress.the-variants.{Turned, Closed, Further}
-use Rattle.advancing.specs.Progress.{progress}
+use Rattle.stepping.specs.declared.Progress.{Progress}
+use Rattle.stepping.specs.declared.Progress.the-variants.{Turned, Closed, Further}
+use Rattle.stepping.specs.Progress.{progress}
 use Rattle.rounds.specs.Runs.{Ran as Ran′, ran, runs}
 use Rattle.rounds.proofs.RunLaws.{on-turned, on-closed, on-further}
 use Rattle.running.proofs.EnoughLaws.{one-more, Started, started}

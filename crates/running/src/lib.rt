@@ -1,14 +1,15 @@
 // Run on: advances, up to one that closes a slot or is refused. The call of the library is `run_on`; it has no `requires`.
-use advancing::Progress;
-use advancing::advance_once;
 use cells::records::load;
 use cells::records::round_in;
 use model::Answer;
 use model::Numbers;
 use model::ReplicaId;
 use model::Round;
+use model::Step;
 use rounds::run_state;
 use rounds::run_vote;
+use stepping::Progress;
+use stepping::do_step;
 ghost use mathlib.Core.Path.{_≡_};
 ghost use Prim.Native.Nat.{_≤_};
 ghost use Rattle.model.specs.History.{most-advances};
@@ -99,9 +100,9 @@ pub fn run_on(
         let after = tables (now (records .exit)) (now (known .exit)) (now (tags .exit)) (now (holders .exit)) (now (proposals .exit)) (now (ballots .exit)) (now (heard .exit)) (now (logs .exit)) in
         ⌜ outcome r after ≡ ran-on numbers (now (strip .entry)) who before ⌝ }
 {
-    let first = advance_once(
+    let first = do_step(
+        Step::Advance(who),
         numbers,
-        who,
         records,
         known,
         tags,

@@ -1,18 +1,15 @@
-// An effect is carried out: stored, and answered.
+// An effect is carried out: what it says is stored.
 use crate::effects::close;
 use crate::effects::seek;
 use crate::effects::send;
 use crate::stand::halt;
 use known::hold_tag;
 use messages::sending::mark_heard;
-use model::Answer;
 use model::Effect;
 use model::Numbers;
 ghost use mathlib.Core.Path.{_≡_};
-ghost use Rattle.model.specs.declared.Answer.the-variants.{Done};
-ghost use Rattle.model.specs.History.{told};
 ghost use Rattle.tables.specs.Write.{write};
-ghost use Rattle.tables.specs.Calls.{tables, outcome};
+ghost use Rattle.tables.specs.Calls.{tables};
 ghost use Rattle.writing.specs.Doable.{Doable};
 
 pub fn carry_out(
@@ -27,18 +24,17 @@ pub fn carry_out(
     ballots: &mut [u8],
     heard: &mut [u16],
     logs: &mut [u64],
-) -> Answer
+)
     requires { ⌜ Doable numbers who effect (tables (now records) (now known) (now tags) (now holders) (now proposals) (now ballots) (now heard) (now logs)) ⌝ }
-    ensures { λ r.
+    ensures { λ _.
         let before = tables (now (records .entry)) (now (known .entry)) (now (tags .entry)) (now (holders .entry)) (now (proposals .entry)) (now (ballots .entry)) (now (heard .entry)) (now (logs .entry)) in
         let after = tables (now (records .exit)) (now (known .exit)) (now (tags .exit)) (now (holders .exit)) (now (proposals .exit)) (now (ballots .exit)) (now (heard .exit)) (now (logs .exit)) in
-        ⌜ outcome r after ≡ outcome (told Done effect) (write numbers who effect before) ⌝ }
+        ⌜ after ≡ write numbers who effect before ⌝ }
 {
     match effect {
-        Effect::Refuse(why) => Answer::Refused(why),
+        Effect::Refuse(_) => {}
         Effect::Hold(x) => {
             hold_tag(numbers, who, x, known, tags, holders);
-            Answer::Done
         }
         Effect::Send { sort, phase, word } => {
             send(
@@ -52,15 +48,12 @@ pub fn carry_out(
                 ballots,
                 heard,
             );
-            Answer::Done
         }
         Effect::Close(x) => {
             close(numbers, who, x, records, logs);
-            Answer::Done
         }
         Effect::Seek => {
             seek(who, records);
-            Answer::Done
         }
         Effect::Receive {
             sort,
@@ -70,11 +63,9 @@ pub fn carry_out(
             word: _,
         } => {
             mark_heard(numbers, who, sort, slot, phase, sender, heard);
-            Answer::Done
         }
         Effect::Halt => {
             halt(who, records);
-            Answer::Done
         }
     }
 }

@@ -5,13 +5,12 @@ use model::Numbers;
 use model::Round;
 use tables::Record;
 ghost use mathlib.Core.Path.{_≡_};
-ghost use Prim.Native.Nat.{_+_, _*_, _<_, _≤_};
+ghost use Prim.Native.Nat.{_<_, _≤_};
 ghost use lib.ListN.{length, set};
-ghost use Rattle.model.specs.declared.Round.the-variants.{Idle};
 ghost use Rattle.model.specs.Rack.{round-number};
 ghost use Rattle.tables.specs.Layout.{record-at, record-stored, log-cell, logs-need};
 ghost use Rattle.tables.specs.Bounds.{Bounds};
-ghost use Rattle.tables.specs.Write.{moved, halted, entered};
+ghost use Rattle.tables.specs.Write.{halted, entered};
 ghost use Rattle.writing.specs.Doable.{Placed};
 
 fn number_of(round: Round) -> u16

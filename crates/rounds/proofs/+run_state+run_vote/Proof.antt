@@ -15,7 +15,7 @@ use Rattle.rounds.proofs.+run_state+run_vote.Lts-run_state as run-state
 use Rattle.rounds.proofs.run_vote.Reads as run-vote
 use Rattle.rounds.proofs.run_vote.Kinds as run-vote-kinds
 use Rattle.rounds.proofs.+run_state+run_vote.Lts-run_vote as run-vote-lts
-use Rattle.advancing.proofs.advance_once.Reads as advance-once-reads
+use Rattle.stepping.proofs.do_step.Reads as do-step-reads
 use Rattle.rounds.proofs.+run_state+run_vote.{statement}
 use Rattle.rounds.proofs.+run_state+run_vote.Tie.{close}
 
@@ -39,512 +39,512 @@ abbrev run-vote-below : ℕ → In 9 run-vote-kinds.ps
 run-vote-below t =
     and 9 run-vote-kinds.ps (falls 9 run-vote-kinds.ps _<_ μ-run-vote t) run-vote.Pre
 
-run-state-advance-once-requires : (t : ℕ) → run-state-lts.Need-advance-once-requires (
-  advance-once-reads.Asked,
-  advance-once-reads.Learnt,
+run-state-do-step-requires : (t : ℕ) → run-state-lts.Need-do-step-requires (
+  do-step-reads.Asked,
+  do-step-reads.Learnt,
   run-vote-below t,
   run-vote.Post,
 ) (run-state-at t) run-state.Post
-run-state-advance-once-requires t c κs = search needs
+run-state-do-step-requires t c κs = search needs
 
 run-state-enum-told : (t : ℕ) → run-state-lts.Need-enum-told (
-  advance-once-reads.Asked,
-  advance-once-reads.Learnt,
+  do-step-reads.Asked,
+  do-step-reads.Learnt,
   run-vote-below t,
   run-vote.Post,
 ) (run-state-at t) run-state.Post
 run-state-enum-told t c = search needs
 
 run-state-enum-told-2 : (t : ℕ) → run-state-lts.Need-enum-told-2 (
-  advance-once-reads.Asked,
-  advance-once-reads.Learnt,
+  do-step-reads.Asked,
+  do-step-reads.Learnt,
   run-vote-below t,
   run-vote.Post,
 ) (run-state-at t) run-state.Post
 run-state-enum-told-2 t c = search needs
 
 run-state-enum-told-3 : (t : ℕ) → run-state-lts.Need-enum-told-3 (
-  advance-once-reads.Asked,
-  advance-once-reads.Learnt,
+  do-step-reads.Asked,
+  do-step-reads.Learnt,
   run-vote-below t,
   run-vote.Post,
 ) (run-state-at t) run-state.Post
 run-state-enum-told-3 t c = search needs
 
 run-state-run-vote-requires : (t : ℕ) → run-state-lts.Need-run-vote-requires (
-  advance-once-reads.Asked,
-  advance-once-reads.Learnt,
+  do-step-reads.Asked,
+  do-step-reads.Learnt,
   run-vote-below t,
   run-vote.Post,
 ) (run-state-at t) run-state.Post
 run-state-run-vote-requires t c κs = (let p = c .before .before .before .before .before .before .before .before .before .before .before .before .before .before .before .before .before .before .before .before .before .before .before .before .before .before .before .before .before .before .before .before .before .before .before .before .before .before .before .before .before .pre .0 in omega arith, let q = c .before .before .before .before .before .before .before .before .before .before .before .before .before .before .before .before .before .before .before .before .before .before .before .before .before .before .before .before .before .before .before .before .before .before .before .before .before .before .before .before .before .pre .1 in omega arith)
 
 run-state-add-result : (t : ℕ) → run-state-lts.Need-add-result (
-  advance-once-reads.Asked,
-  advance-once-reads.Learnt,
+  do-step-reads.Asked,
+  do-step-reads.Learnt,
   run-vote-below t,
   run-vote.Post,
 ) (run-state-at t) run-state.Post
 run-state-add-result t c = let q = c .before .before .before .before .before .before .before .before .before .before .before .before .before .before .before .before .before .before .before .before .before .before .before .before .before .before .before .before .before .before .before .before .before .before .before .before .before .before .before .before .before .before .before .before .before .before .before .before .before .before .before .before .before .before .before .before .pre .1 in omega (arith, ran-low _ _ _ _ _ (c .before .before .before .before .before .before .before .before .before .before .before .before .before .before .run-vote .ensures))
 
 run-state-same-length : (t : ℕ) → run-state-lts.Need-same-length (
-  advance-once-reads.Asked,
-  advance-once-reads.Learnt,
+  do-step-reads.Asked,
+  do-step-reads.Learnt,
   run-vote-below t,
   run-vote.Post,
 ) (run-state-at t) run-state.Post
 run-state-same-length t c = search needs
 
 run-state-same-length-2 : (t : ℕ) → run-state-lts.Need-same-length-2 (
-  advance-once-reads.Asked,
-  advance-once-reads.Learnt,
+  do-step-reads.Asked,
+  do-step-reads.Learnt,
   run-vote-below t,
   run-vote.Post,
 ) (run-state-at t) run-state.Post
 run-state-same-length-2 t c = search needs
 
 run-state-same-length-3 : (t : ℕ) → run-state-lts.Need-same-length-3 (
-  advance-once-reads.Asked,
-  advance-once-reads.Learnt,
+  do-step-reads.Asked,
+  do-step-reads.Learnt,
   run-vote-below t,
   run-vote.Post,
 ) (run-state-at t) run-state.Post
 run-state-same-length-3 t c = search needs
 
 run-state-same-length-4 : (t : ℕ) → run-state-lts.Need-same-length-4 (
-  advance-once-reads.Asked,
-  advance-once-reads.Learnt,
+  do-step-reads.Asked,
+  do-step-reads.Learnt,
   run-vote-below t,
   run-vote.Post,
 ) (run-state-at t) run-state.Post
 run-state-same-length-4 t c = search needs
 
 run-state-same-length-5 : (t : ℕ) → run-state-lts.Need-same-length-5 (
-  advance-once-reads.Asked,
-  advance-once-reads.Learnt,
+  do-step-reads.Asked,
+  do-step-reads.Learnt,
   run-vote-below t,
   run-vote.Post,
 ) (run-state-at t) run-state.Post
 run-state-same-length-5 t c = search needs
 
 run-state-same-length-6 : (t : ℕ) → run-state-lts.Need-same-length-6 (
-  advance-once-reads.Asked,
-  advance-once-reads.Learnt,
+  do-step-reads.Asked,
+  do-step-reads.Learnt,
   run-vote-below t,
   run-vote.Post,
 ) (run-state-at t) run-state.Post
 run-state-same-length-6 t c = search needs
 
 run-state-same-length-7 : (t : ℕ) → run-state-lts.Need-same-length-7 (
-  advance-once-reads.Asked,
-  advance-once-reads.Learnt,
+  do-step-reads.Asked,
+  do-step-reads.Learnt,
   run-vote-below t,
   run-vote.Post,
 ) (run-state-at t) run-state.Post
 run-state-same-length-7 t c = search needs
 
 run-state-returns : (t : ℕ) → run-state-lts.Need-returns (
-  advance-once-reads.Asked,
-  advance-once-reads.Learnt,
+  do-step-reads.Asked,
+  do-step-reads.Learnt,
   run-vote-below t,
   run-vote.Post,
 ) (run-state-at t) run-state.Post
-run-state-returns t c = let a = c .before .before .before .before .before .before .before .before .before .before .before .before .before .before .before .before .before .before .before .before .before .before .before .before .before .before .before .before .before .before .before .before .before .args in let t = tables (a .records .now) (a .known .now) (a .tags .now) (a .holders .now) (a .proposals .now) (a .ballots .now) (a .heard .now) (a .logs .now) in on-turned (a .numbers) (a .strip .now) (a .who) t (c .before .before .before .before .before .before .before .before .before .before .before .before .before .before .before .before .advance-once .ensures .0) (c .before .before .before .before .before .before .before .before .before .before .before .before .before .before .before .before .advance-once .ensures .1) (2 * a .left) (add-one _) (c .enum-told .given .1)
+run-state-returns t c = let a = c .before .before .before .before .before .before .before .before .before .before .before .before .before .before .before .before .before .before .before .before .before .before .before .before .before .before .before .before .before .before .before .before .before .args in let t = tables (a .records .now) (a .known .now) (a .tags .now) (a .holders .now) (a .proposals .now) (a .ballots .now) (a .heard .now) (a .logs .now) in on-turned (a .numbers) (a .strip .now) (a .who) t (c .before .before .before .before .before .before .before .before .before .before .before .before .before .before .before .before .do-step .ensures .0) (c .before .before .before .before .before .before .before .before .before .before .before .before .before .before .before .before .do-step .ensures .1) (2 * a .left) (add-one _) (c .enum-told .given .1)
 
 run-state-same-length-8 : (t : ℕ) → run-state-lts.Need-same-length-8 (
-  advance-once-reads.Asked,
-  advance-once-reads.Learnt,
+  do-step-reads.Asked,
+  do-step-reads.Learnt,
   run-vote-below t,
   run-vote.Post,
 ) (run-state-at t) run-state.Post
 run-state-same-length-8 t c = search needs
 
 run-state-same-length-9 : (t : ℕ) → run-state-lts.Need-same-length-9 (
-  advance-once-reads.Asked,
-  advance-once-reads.Learnt,
+  do-step-reads.Asked,
+  do-step-reads.Learnt,
   run-vote-below t,
   run-vote.Post,
 ) (run-state-at t) run-state.Post
 run-state-same-length-9 t c = search needs
 
 run-state-same-length-10 : (t : ℕ) → run-state-lts.Need-same-length-10 (
-  advance-once-reads.Asked,
-  advance-once-reads.Learnt,
+  do-step-reads.Asked,
+  do-step-reads.Learnt,
   run-vote-below t,
   run-vote.Post,
 ) (run-state-at t) run-state.Post
 run-state-same-length-10 t c = search needs
 
 run-state-same-length-11 : (t : ℕ) → run-state-lts.Need-same-length-11 (
-  advance-once-reads.Asked,
-  advance-once-reads.Learnt,
+  do-step-reads.Asked,
+  do-step-reads.Learnt,
   run-vote-below t,
   run-vote.Post,
 ) (run-state-at t) run-state.Post
 run-state-same-length-11 t c = search needs
 
 run-state-same-length-12 : (t : ℕ) → run-state-lts.Need-same-length-12 (
-  advance-once-reads.Asked,
-  advance-once-reads.Learnt,
+  do-step-reads.Asked,
+  do-step-reads.Learnt,
   run-vote-below t,
   run-vote.Post,
 ) (run-state-at t) run-state.Post
 run-state-same-length-12 t c = search needs
 
 run-state-same-length-13 : (t : ℕ) → run-state-lts.Need-same-length-13 (
-  advance-once-reads.Asked,
-  advance-once-reads.Learnt,
+  do-step-reads.Asked,
+  do-step-reads.Learnt,
   run-vote-below t,
   run-vote.Post,
 ) (run-state-at t) run-state.Post
 run-state-same-length-13 t c = search needs
 
 run-state-same-length-14 : (t : ℕ) → run-state-lts.Need-same-length-14 (
-  advance-once-reads.Asked,
-  advance-once-reads.Learnt,
+  do-step-reads.Asked,
+  do-step-reads.Learnt,
   run-vote-below t,
   run-vote.Post,
 ) (run-state-at t) run-state.Post
 run-state-same-length-14 t c = search needs
 
 run-state-returns-2 : (t : ℕ) → run-state-lts.Need-returns-2 (
-  advance-once-reads.Asked,
-  advance-once-reads.Learnt,
+  do-step-reads.Asked,
+  do-step-reads.Learnt,
   run-vote-below t,
   run-vote.Post,
 ) (run-state-at t) run-state.Post
-run-state-returns-2 t c = let a = c .before .before .before .before .before .before .before .before .before .before .before .before .before .before .before .before .before .before .before .before .before .before .before .before .before .before .before .before .before .before .before .before .before .args in let t = tables (a .records .now) (a .known .now) (a .tags .now) (a .holders .now) (a .proposals .now) (a .ballots .now) (a .heard .now) (a .logs .now) in on-closed (a .numbers) (a .strip .now) (a .who) t (c .before .before .before .before .before .before .before .before .before .before .before .before .before .before .before .before .advance-once .ensures .0) (c .before .before .before .before .before .before .before .before .before .before .before .before .before .before .before .before .advance-once .ensures .1) (2 * a .left) (add-one _) (c .enum-told2 .given .1)
+run-state-returns-2 t c = let a = c .before .before .before .before .before .before .before .before .before .before .before .before .before .before .before .before .before .before .before .before .before .before .before .before .before .before .before .before .before .before .before .before .before .args in let t = tables (a .records .now) (a .known .now) (a .tags .now) (a .holders .now) (a .proposals .now) (a .ballots .now) (a .heard .now) (a .logs .now) in on-closed (a .numbers) (a .strip .now) (a .who) t (c .before .before .before .before .before .before .before .before .before .before .before .before .before .before .before .before .do-step .ensures .0) (c .before .before .before .before .before .before .before .before .before .before .before .before .before .before .before .before .do-step .ensures .1) (2 * a .left) (add-one _) (c .enum-told2 .given .1)
 
 run-state-same-length-15 : (t : ℕ) → run-state-lts.Need-same-length-15 (
-  advance-once-reads.Asked,
-  advance-once-reads.Learnt,
+  do-step-reads.Asked,
+  do-step-reads.Learnt,
   run-vote-below t,
   run-vote.Post,
 ) (run-state-at t) run-state.Post
 run-state-same-length-15 t c = search needs
 
 run-state-same-length-16 : (t : ℕ) → run-state-lts.Need-same-length-16 (
-  advance-once-reads.Asked,
-  advance-once-reads.Learnt,
+  do-step-reads.Asked,
+  do-step-reads.Learnt,
   run-vote-below t,
   run-vote.Post,
 ) (run-state-at t) run-state.Post
 run-state-same-length-16 t c = search needs
 
 run-state-same-length-17 : (t : ℕ) → run-state-lts.Need-same-length-17 (
-  advance-once-reads.Asked,
-  advance-once-reads.Learnt,
+  do-step-reads.Asked,
+  do-step-reads.Learnt,
   run-vote-below t,
   run-vote.Post,
 ) (run-state-at t) run-state.Post
 run-state-same-length-17 t c = search needs
 
 run-state-same-length-18 : (t : ℕ) → run-state-lts.Need-same-length-18 (
-  advance-once-reads.Asked,
-  advance-once-reads.Learnt,
+  do-step-reads.Asked,
+  do-step-reads.Learnt,
   run-vote-below t,
   run-vote.Post,
 ) (run-state-at t) run-state.Post
 run-state-same-length-18 t c = search needs
 
 run-state-same-length-19 : (t : ℕ) → run-state-lts.Need-same-length-19 (
-  advance-once-reads.Asked,
-  advance-once-reads.Learnt,
+  do-step-reads.Asked,
+  do-step-reads.Learnt,
   run-vote-below t,
   run-vote.Post,
 ) (run-state-at t) run-state.Post
 run-state-same-length-19 t c = search needs
 
 run-state-same-length-20 : (t : ℕ) → run-state-lts.Need-same-length-20 (
-  advance-once-reads.Asked,
-  advance-once-reads.Learnt,
+  do-step-reads.Asked,
+  do-step-reads.Learnt,
   run-vote-below t,
   run-vote.Post,
 ) (run-state-at t) run-state.Post
 run-state-same-length-20 t c = search needs
 
 run-state-same-length-21 : (t : ℕ) → run-state-lts.Need-same-length-21 (
-  advance-once-reads.Asked,
-  advance-once-reads.Learnt,
+  do-step-reads.Asked,
+  do-step-reads.Learnt,
   run-vote-below t,
   run-vote.Post,
 ) (run-state-at t) run-state.Post
 run-state-same-length-21 t c = search needs
 
 run-state-returns-3 : (t : ℕ) → run-state-lts.Need-returns-3 (
-  advance-once-reads.Asked,
-  advance-once-reads.Learnt,
+  do-step-reads.Asked,
+  do-step-reads.Learnt,
   run-vote-below t,
   run-vote.Post,
 ) (run-state-at t) run-state.Post
-run-state-returns-3 t c = let a = c .before .before .before .before .before .before .before .before .before .before .before .before .before .before .before .before .before .before .before .before .before .before .before .before .before .before .before .before .before .before .before .before .before .before .before .before .before .before .before .before .before .before .before .before .before .before .before .before .before .before .before .before .before .before .before .before .args in let t = tables (a .records .now) (a .known .now) (a .tags .now) (a .holders .now) (a .proposals .now) (a .ballots .now) (a .heard .now) (a .logs .now) in on-further (a .numbers) (a .strip .now) (a .who) t (c .before .before .before .before .before .before .before .before .before .before .before .before .before .before .before .before .before .before .before .before .before .before .before .before .before .before .before .before .before .before .before .before .before .before .before .before .before .before .before .advance-once .ensures .0) (c .before .before .before .before .before .before .before .before .before .before .before .before .before .before .before .before .before .before .before .before .before .before .before .before .before .before .before .before .before .before .before .before .before .before .before .before .before .before .before .advance-once .ensures .1) (2 * a .left) (add-one _) (c .before .before .before .before .before .before .before .before .before .before .before .before .before .before .before .before .before .before .before .before .before .before .before .enum-told3 .given .1) (c .before .before .before .before .before .before .before .before .before .before .before .before .before .before .run-vote .ensures)
+run-state-returns-3 t c = let a = c .before .before .before .before .before .before .before .before .before .before .before .before .before .before .before .before .before .before .before .before .before .before .before .before .before .before .before .before .before .before .before .before .before .before .before .before .before .before .before .before .before .before .before .before .before .before .before .before .before .before .before .before .before .before .before .before .args in let t = tables (a .records .now) (a .known .now) (a .tags .now) (a .holders .now) (a .proposals .now) (a .ballots .now) (a .heard .now) (a .logs .now) in on-further (a .numbers) (a .strip .now) (a .who) t (c .before .before .before .before .before .before .before .before .before .before .before .before .before .before .before .before .before .before .before .before .before .before .before .before .before .before .before .before .before .before .before .before .before .before .before .before .before .before .before .do-step .ensures .0) (c .before .before .before .before .before .before .before .before .before .before .before .before .before .before .before .before .before .before .before .before .before .before .before .before .before .before .before .before .before .before .before .before .before .before .before .before .before .before .before .do-step .ensures .1) (2 * a .left) (add-one _) (c .before .before .before .before .before .before .before .before .before .before .before .before .before .before .before .before .before .before .before .before .before .before .before .enum-told3 .given .1) (c .before .before .before .before .before .before .before .before .before .before .before .before .before .before .run-vote .ensures)
 
 run-vote-returns : (t : ℕ) → run-vote-lts.Need-returns (
-  advance-once-reads.Asked,
-  advance-once-reads.Learnt,
+  do-step-reads.Asked,
+  do-step-reads.Learnt,
   run-state-below t,
   run-state.Post,
 ) (run-vote-at t) run-vote.Post
 run-vote-returns t c = let a = c .before .before .before .before .before .before .before .before .before .args in let t = tables (a .records .now) (a .known .now) (a .tags .now) (a .holders .now) (a .proposals .now) (a .ballots .now) (a .heard .now) (a .logs .now) in runs-none (a .numbers) (a .strip .now) (a .who) t (let z = c .if1 .taken in omega arith)
 
-run-vote-advance-once-requires : (t : ℕ) → run-vote-lts.Need-advance-once-requires (
-  advance-once-reads.Asked,
-  advance-once-reads.Learnt,
+run-vote-do-step-requires : (t : ℕ) → run-vote-lts.Need-do-step-requires (
+  do-step-reads.Asked,
+  do-step-reads.Learnt,
   run-state-below t,
   run-state.Post,
 ) (run-vote-at t) run-vote.Post
-run-vote-advance-once-requires t c κs = search needs
+run-vote-do-step-requires t c κs = search needs
 
 run-vote-enum-told : (t : ℕ) → run-vote-lts.Need-enum-told (
-  advance-once-reads.Asked,
-  advance-once-reads.Learnt,
+  do-step-reads.Asked,
+  do-step-reads.Learnt,
   run-state-below t,
   run-state.Post,
 ) (run-vote-at t) run-vote.Post
 run-vote-enum-told t c = search needs
 
 run-vote-enum-told-2 : (t : ℕ) → run-vote-lts.Need-enum-told-2 (
-  advance-once-reads.Asked,
-  advance-once-reads.Learnt,
+  do-step-reads.Asked,
+  do-step-reads.Learnt,
   run-state-below t,
   run-state.Post,
 ) (run-vote-at t) run-vote.Post
 run-vote-enum-told-2 t c = search needs
 
 run-vote-enum-told-3 : (t : ℕ) → run-vote-lts.Need-enum-told-3 (
-  advance-once-reads.Asked,
-  advance-once-reads.Learnt,
+  do-step-reads.Asked,
+  do-step-reads.Learnt,
   run-state-below t,
   run-state.Post,
 ) (run-vote-at t) run-vote.Post
 run-vote-enum-told-3 t c = search needs
 
 run-vote-sub-run-state : (t : ℕ) → run-vote-lts.Need-sub-run-state (
-  advance-once-reads.Asked,
-  advance-once-reads.Learnt,
+  do-step-reads.Asked,
+  do-step-reads.Learnt,
   run-state-below t,
   run-state.Post,
 ) (run-vote-at t) run-vote.Post
 run-vote-sub-run-state t c = omega (arith, pos-of-ne-zero (c .before .before .before .before .before .before .before .before .before .before .before .before .before .before .before .before .before .before .before .before .before .before .before .before .before .if1 .left))
 
 run-vote-run-state-requires : (t : ℕ) → run-vote-lts.Need-run-state-requires (
-  advance-once-reads.Asked,
-  advance-once-reads.Learnt,
+  do-step-reads.Asked,
+  do-step-reads.Learnt,
   run-state-below t,
   run-state.Post,
 ) (run-vote-at t) run-vote.Post
 run-vote-run-state-requires t c κs = (let p = c .before .before .before .before .before .before .before .before .before .before .before .before .before .before .before .before .before .before .before .before .before .before .before .before .before .before .before .before .before .before .before .before .before .before .before .before .before .before .before .before .before .before .pre .0 in omega (arith, pos-of-ne-zero (c .before .before .before .before .before .before .before .before .before .before .before .before .before .before .before .before .before .before .before .before .before .before .before .before .before .before .before .before .before .before .before .before .before .if1 .left)), let q = c .before .before .before .before .before .before .before .before .before .before .before .before .before .before .before .before .before .before .before .before .before .before .before .before .before .before .before .before .before .before .before .before .before .before .before .before .before .before .before .before .before .before .pre .1 in omega arith)
 
 run-vote-add-result : (t : ℕ) → run-vote-lts.Need-add-result (
-  advance-once-reads.Asked,
-  advance-once-reads.Learnt,
+  do-step-reads.Asked,
+  do-step-reads.Learnt,
   run-state-below t,
   run-state.Post,
 ) (run-vote-at t) run-vote.Post
 run-vote-add-result t c = let q = c .before .before .before .before .before .before .before .before .before .before .before .before .before .before .before .before .before .before .before .before .before .before .before .before .before .before .before .before .before .before .before .before .before .before .before .before .before .before .before .before .before .before .before .before .before .before .before .before .before .before .before .before .before .before .before .before .before .pre .1 in omega (arith, ran-low _ _ _ _ _ (c .before .before .before .before .before .before .before .before .before .before .before .before .before .before .run-state .ensures))
 
 run-vote-same-length : (t : ℕ) → run-vote-lts.Need-same-length (
-  advance-once-reads.Asked,
-  advance-once-reads.Learnt,
+  do-step-reads.Asked,
+  do-step-reads.Learnt,
   run-state-below t,
   run-state.Post,
 ) (run-vote-at t) run-vote.Post
 run-vote-same-length t c = search needs
 
 run-vote-same-length-2 : (t : ℕ) → run-vote-lts.Need-same-length-2 (
-  advance-once-reads.Asked,
-  advance-once-reads.Learnt,
+  do-step-reads.Asked,
+  do-step-reads.Learnt,
   run-state-below t,
   run-state.Post,
 ) (run-vote-at t) run-vote.Post
 run-vote-same-length-2 t c = search needs
 
 run-vote-same-length-3 : (t : ℕ) → run-vote-lts.Need-same-length-3 (
-  advance-once-reads.Asked,
-  advance-once-reads.Learnt,
+  do-step-reads.Asked,
+  do-step-reads.Learnt,
   run-state-below t,
   run-state.Post,
 ) (run-vote-at t) run-vote.Post
 run-vote-same-length-3 t c = search needs
 
 run-vote-same-length-4 : (t : ℕ) → run-vote-lts.Need-same-length-4 (
-  advance-once-reads.Asked,
-  advance-once-reads.Learnt,
+  do-step-reads.Asked,
+  do-step-reads.Learnt,
   run-state-below t,
   run-state.Post,
 ) (run-vote-at t) run-vote.Post
 run-vote-same-length-4 t c = search needs
 
 run-vote-same-length-5 : (t : ℕ) → run-vote-lts.Need-same-length-5 (
-  advance-once-reads.Asked,
-  advance-once-reads.Learnt,
+  do-step-reads.Asked,
+  do-step-reads.Learnt,
   run-state-below t,
   run-state.Post,
 ) (run-vote-at t) run-vote.Post
 run-vote-same-length-5 t c = search needs
 
 run-vote-same-length-6 : (t : ℕ) → run-vote-lts.Need-same-length-6 (
-  advance-once-reads.Asked,
-  advance-once-reads.Learnt,
+  do-step-reads.Asked,
+  do-step-reads.Learnt,
   run-state-below t,
   run-state.Post,
 ) (run-vote-at t) run-vote.Post
 run-vote-same-length-6 t c = search needs
 
 run-vote-same-length-7 : (t : ℕ) → run-vote-lts.Need-same-length-7 (
-  advance-once-reads.Asked,
-  advance-once-reads.Learnt,
+  do-step-reads.Asked,
+  do-step-reads.Learnt,
   run-state-below t,
   run-state.Post,
 ) (run-vote-at t) run-vote.Post
 run-vote-same-length-7 t c = search needs
 
 run-vote-returns-2 : (t : ℕ) → run-vote-lts.Need-returns-2 (
-  advance-once-reads.Asked,
-  advance-once-reads.Learnt,
+  do-step-reads.Asked,
+  do-step-reads.Learnt,
   run-state-below t,
   run-state.Post,
 ) (run-vote-at t) run-vote.Post
-run-vote-returns-2 t c = let a = c .before .before .before .before .before .before .before .before .before .before .before .before .before .before .before .before .before .before .before .before .before .before .before .before .before .before .before .before .before .before .before .before .before .before .args in let t = tables (a .records .now) (a .known .now) (a .tags .now) (a .holders .now) (a .proposals .now) (a .ballots .now) (a .heard .now) (a .logs .now) in let e : 2 * a .left ≡ suc (2 * (a .left - 1) + 1) = omega (arith, pos-of-ne-zero (c .before .before .before .before .before .before .before .before .before .before .before .before .before .before .before .before .before .before .before .before .before .before .before .before .before .if1 .left)) in on-turned (a .numbers) (a .strip .now) (a .who) t (c .before .before .before .before .before .before .before .before .before .before .before .before .before .before .before .before .advance-once .ensures .0) (c .before .before .before .before .before .before .before .before .before .before .before .before .before .before .before .before .advance-once .ensures .1) (2 * (a .left - 1) + 1) e (c .enum-told .given .1)
+run-vote-returns-2 t c = let a = c .before .before .before .before .before .before .before .before .before .before .before .before .before .before .before .before .before .before .before .before .before .before .before .before .before .before .before .before .before .before .before .before .before .before .args in let t = tables (a .records .now) (a .known .now) (a .tags .now) (a .holders .now) (a .proposals .now) (a .ballots .now) (a .heard .now) (a .logs .now) in let e : 2 * a .left ≡ suc (2 * (a .left - 1) + 1) = omega (arith, pos-of-ne-zero (c .before .before .before .before .before .before .before .before .before .before .before .before .before .before .before .before .before .before .before .before .before .before .before .before .before .if1 .left)) in on-turned (a .numbers) (a .strip .now) (a .who) t (c .before .before .before .before .before .before .before .before .before .before .before .before .before .before .before .before .do-step .ensures .0) (c .before .before .before .before .before .before .before .before .before .before .before .before .before .before .before .before .do-step .ensures .1) (2 * (a .left - 1) + 1) e (c .enum-told .given .1)
 
 run-vote-same-length-8 : (t : ℕ) → run-vote-lts.Need-same-length-8 (
-  advance-once-reads.Asked,
-  advance-once-reads.Learnt,
+  do-step-reads.Asked,
+  do-step-reads.Learnt,
   run-state-below t,
   run-state.Post,
 ) (run-vote-at t) run-vote.Post
 run-vote-same-length-8 t c = search needs
 
 run-vote-same-length-9 : (t : ℕ) → run-vote-lts.Need-same-length-9 (
-  advance-once-reads.Asked,
-  advance-once-reads.Learnt,
+  do-step-reads.Asked,
+  do-step-reads.Learnt,
   run-state-below t,
   run-state.Post,
 ) (run-vote-at t) run-vote.Post
 run-vote-same-length-9 t c = search needs
 
 run-vote-same-length-10 : (t : ℕ) → run-vote-lts.Need-same-length-10 (
-  advance-once-reads.Asked,
-  advance-once-reads.Learnt,
+  do-step-reads.Asked,
+  do-step-reads.Learnt,
   run-state-below t,
   run-state.Post,
 ) (run-vote-at t) run-vote.Post
 run-vote-same-length-10 t c = search needs
 
 run-vote-same-length-11 : (t : ℕ) → run-vote-lts.Need-same-length-11 (
-  advance-once-reads.Asked,
-  advance-once-reads.Learnt,
+  do-step-reads.Asked,
+  do-step-reads.Learnt,
   run-state-below t,
   run-state.Post,
 ) (run-vote-at t) run-vote.Post
 run-vote-same-length-11 t c = search needs
 
 run-vote-same-length-12 : (t : ℕ) → run-vote-lts.Need-same-length-12 (
-  advance-once-reads.Asked,
-  advance-once-reads.Learnt,
+  do-step-reads.Asked,
+  do-step-reads.Learnt,
   run-state-below t,
   run-state.Post,
 ) (run-vote-at t) run-vote.Post
 run-vote-same-length-12 t c = search needs
 
 run-vote-same-length-13 : (t : ℕ) → run-vote-lts.Need-same-length-13 (
-  advance-once-reads.Asked,
-  advance-once-reads.Learnt,
+  do-step-reads.Asked,
+  do-step-reads.Learnt,
   run-state-below t,
   run-state.Post,
 ) (run-vote-at t) run-vote.Post
 run-vote-same-length-13 t c = search needs
 
 run-vote-same-length-14 : (t : ℕ) → run-vote-lts.Need-same-length-14 (
-  advance-once-reads.Asked,
-  advance-once-reads.Learnt,
+  do-step-reads.Asked,
+  do-step-reads.Learnt,
   run-state-below t,
   run-state.Post,
 ) (run-vote-at t) run-vote.Post
 run-vote-same-length-14 t c = search needs
 
 run-vote-returns-3 : (t : ℕ) → run-vote-lts.Need-returns-3 (
-  advance-once-reads.Asked,
-  advance-once-reads.Learnt,
+  do-step-reads.Asked,
+  do-step-reads.Learnt,
   run-state-below t,
   run-state.Post,
 ) (run-vote-at t) run-vote.Post
-run-vote-returns-3 t c = let a = c .before .before .before .before .before .before .before .before .before .before .before .before .before .before .before .before .before .before .before .before .before .before .before .before .before .before .before .before .before .before .before .before .before .before .args in let t = tables (a .records .now) (a .known .now) (a .tags .now) (a .holders .now) (a .proposals .now) (a .ballots .now) (a .heard .now) (a .logs .now) in let e : 2 * a .left ≡ suc (2 * (a .left - 1) + 1) = omega (arith, pos-of-ne-zero (c .before .before .before .before .before .before .before .before .before .before .before .before .before .before .before .before .before .before .before .before .before .before .before .before .before .if1 .left)) in on-closed (a .numbers) (a .strip .now) (a .who) t (c .before .before .before .before .before .before .before .before .before .before .before .before .before .before .before .before .advance-once .ensures .0) (c .before .before .before .before .before .before .before .before .before .before .before .before .before .before .before .before .advance-once .ensures .1) (2 * (a .left - 1) + 1) e (c .enum-told2 .given .1)
+run-vote-returns-3 t c = let a = c .before .before .before .before .before .before .before .before .before .before .before .before .before .before .before .before .before .before .before .before .before .before .before .before .before .before .before .before .before .before .before .before .before .before .args in let t = tables (a .records .now) (a .known .now) (a .tags .now) (a .holders .now) (a .proposals .now) (a .ballots .now) (a .heard .now) (a .logs .now) in let e : 2 * a .left ≡ suc (2 * (a .left - 1) + 1) = omega (arith, pos-of-ne-zero (c .before .before .before .before .before .before .before .before .before .before .before .before .before .before .before .before .before .before .before .before .before .before .before .before .before .if1 .left)) in on-closed (a .numbers) (a .strip .now) (a .who) t (c .before .before .before .before .before .before .before .before .before .before .before .before .before .before .before .before .do-step .ensures .0) (c .before .before .before .before .before .before .before .before .before .before .before .before .before .before .before .before .do-step .ensures .1) (2 * (a .left - 1) + 1) e (c .enum-told2 .given .1)
 
 run-vote-same-length-15 : (t : ℕ) → run-vote-lts.Need-same-length-15 (
-  advance-once-reads.Asked,
-  advance-once-reads.Learnt,
+  do-step-reads.Asked,
+  do-step-reads.Learnt,
   run-state-below t,
   run-state.Post,
 ) (run-vote-at t) run-vote.Post
 run-vote-same-length-15 t c = search needs
 
 run-vote-same-length-16 : (t : ℕ) → run-vote-lts.Need-same-length-16 (
-  advance-once-reads.Asked,
-  advance-once-reads.Learnt,
+  do-step-reads.Asked,
+  do-step-reads.Learnt,
   run-state-below t,
   run-state.Post,
 ) (run-vote-at t) run-vote.Post
 run-vote-same-length-16 t c = search needs
 
 run-vote-same-length-17 : (t : ℕ) → run-vote-lts.Need-same-length-17 (
-  advance-once-reads.Asked,
-  advance-once-reads.Learnt,
+  do-step-reads.Asked,
+  do-step-reads.Learnt,
   run-state-below t,
   run-state.Post,
 ) (run-vote-at t) run-vote.Post
 run-vote-same-length-17 t c = search needs
 
 run-vote-same-length-18 : (t : ℕ) → run-vote-lts.Need-same-length-18 (
-  advance-once-reads.Asked,
-  advance-once-reads.Learnt,
+  do-step-reads.Asked,
+  do-step-reads.Learnt,
   run-state-below t,
   run-state.Post,
 ) (run-vote-at t) run-vote.Post
 run-vote-same-length-18 t c = search needs
 
 run-vote-same-length-19 : (t : ℕ) → run-vote-lts.Need-same-length-19 (
-  advance-once-reads.Asked,
-  advance-once-reads.Learnt,
+  do-step-reads.Asked,
+  do-step-reads.Learnt,
   run-state-below t,
   run-state.Post,
 ) (run-vote-at t) run-vote.Post
 run-vote-same-length-19 t c = search needs
 
 run-vote-same-length-20 : (t : ℕ) → run-vote-lts.Need-same-length-20 (
-  advance-once-reads.Asked,
-  advance-once-reads.Learnt,
+  do-step-reads.Asked,
+  do-step-reads.Learnt,
   run-state-below t,
   run-state.Post,
 ) (run-vote-at t) run-vote.Post
 run-vote-same-length-20 t c = search needs
 
 run-vote-same-length-21 : (t : ℕ) → run-vote-lts.Need-same-length-21 (
-  advance-once-reads.Asked,
-  advance-once-reads.Learnt,
+  do-step-reads.Asked,
+  do-step-reads.Learnt,
   run-state-below t,
   run-state.Post,
 ) (run-vote-at t) run-vote.Post
 run-vote-same-length-21 t c = search needs
 
 run-vote-returns-4 : (t : ℕ) → run-vote-lts.Need-returns-4 (
-  advance-once-reads.Asked,
-  advance-once-reads.Learnt,
+  do-step-reads.Asked,
+  do-step-reads.Learnt,
   run-state-below t,
   run-state.Post,
 ) (run-vote-at t) run-vote.Post
-run-vote-returns-4 t c = let a = c .before .before .before .before .before .before .before .before .before .before .before .before .before .before .before .before .before .before .before .before .before .before .before .before .before .before .before .before .before .before .before .before .before .before .before .before .before .before .before .before .before .before .before .before .before .before .before .before .before .before .before .before .before .before .before .before .before .args in let t = tables (a .records .now) (a .known .now) (a .tags .now) (a .holders .now) (a .proposals .now) (a .ballots .now) (a .heard .now) (a .logs .now) in let e : 2 * a .left ≡ suc (2 * (a .left - 1) + 1) = omega (arith, pos-of-ne-zero (c .before .before .before .before .before .before .before .before .before .before .before .before .before .before .before .before .before .before .before .before .before .before .before .before .before .before .before .before .before .before .before .before .before .before .before .before .before .before .before .before .before .before .before .before .before .before .before .before .if1 .left)) in on-further (a .numbers) (a .strip .now) (a .who) t (c .before .before .before .before .before .before .before .before .before .before .before .before .before .before .before .before .before .before .before .before .before .before .before .before .before .before .before .before .before .before .before .before .before .before .before .before .before .before .before .advance-once .ensures .0) (c .before .before .before .before .before .before .before .before .before .before .before .before .before .before .before .before .before .before .before .before .before .before .before .before .before .before .before .before .before .before .before .before .before .before .before .before .before .before .before .advance-once .ensures .1) (2 * (a .left - 1) + 1) e (c .before .before .before .before .before .before .before .before .before .before .before .before .before .before .before .before .before .before .before .before .before .before .before .enum-told3 .given .1) (c .before .before .before .before .before .before .before .before .before .before .before .before .before .before .run-state .ensures)
+run-vote-returns-4 t c = let a = c .before .before .before .before .before .before .before .before .before .before .before .before .before .before .before .before .before .before .before .before .before .before .before .before .before .before .before .before .before .before .before .before .before .before .before .before .before .before .before .before .before .before .before .before .before .before .before .before .before .before .before .before .before .before .before .before .before .args in let t = tables (a .records .now) (a .known .now) (a .tags .now) (a .holders .now) (a .proposals .now) (a .ballots .now) (a .heard .now) (a .logs .now) in let e : 2 * a .left ≡ suc (2 * (a .left - 1) + 1) = omega (arith, pos-of-ne-zero (c .before .before .before .before .before .before .before .before .before .before .before .before .before .before .before .before .before .before .before .before .before .before .before .before .before .before .before .before .before .before .before .before .before .before .before .before .before .before .before .before .before .before .before .before .before .before .before .before .if1 .left)) in on-further (a .numbers) (a .strip .now) (a .who) t (c .before .before .before .before .before .before .before .before .before .before .before .before .before .before .before .before .before .before .before .before .before .before .before .before .before .before .before .before .before .before .before .before .before .before .before .before .before .before .before .do-step .ensures .0) (c .before .before .before .before .before .before .before .before .before .before .before .before .before .before .before .before .before .before .before .before .before .before .before .before .before .before .before .before .before .before .before .before .before .before .before .before .before .before .before .do-step .ensures .1) (2 * (a .left - 1) + 1) e (c .before .before .before .before .before .before .before .before .before .before .before .before .before .before .before .before .before .before .before .before .before .before .before .enum-told3 .given .1) (c .before .before .before .before .before .before .before .before .before .before .before .before .before .before .run-state .ensures)
 
 pub +run-state+run-vote-spec : {M : Type 1} → statement M
 +run-state+run-vote-spec = close μ-run-state μ-run-vote (λ t. run-state-lts.spec (
-  advance-once-reads.Asked,
-  advance-once-reads.Learnt,
+  do-step-reads.Asked,
+  do-step-reads.Learnt,
   run-vote-below t,
   run-vote.Post,
 )
     (run-state-at t)
     run-state.Post
-    (run-state-advance-once-requires t)
+    (run-state-do-step-requires t)
     (run-state-enum-told t)
     (run-state-enum-told-2 t)
     (run-state-enum-told-3 t)
@@ -575,11 +575,11 @@ pub +run-state+run-vote-spec : {M : Type 1} → statement M
     (run-state-same-length-21 t)
     (run-state-returns-3 t))
     λ t. run-vote-lts.spec
-    (advance-once-reads.Asked, advance-once-reads.Learnt, run-state-below t, run-state.Post)
+    (do-step-reads.Asked, do-step-reads.Learnt, run-state-below t, run-state.Post)
     (run-vote-at t)
     run-vote.Post
     (run-vote-returns t)
-    (run-vote-advance-once-requires t)
+    (run-vote-do-step-requires t)
     (run-vote-enum-told t)
     (run-vote-enum-told-2 t)
     (run-vote-enum-told-3 t)

@@ -1,17 +1,14 @@
 use Rattle.tables.specs.Calls.{tables}
-use Rattle.stepping.proofs.StepLaws.{doable, is-step}
+use Rattle.stepping.proofs.StepLaws.{is-step}
 use borrow.Author.Needs.{needs}
 use Rattle.stepping.proofs.take_step.Statement.{statement}
 use Rattle.stepping.proofs.take_step.Tie as tie
 
-acting-of-requires : tie.Need-acting-of-requires
-acting-of-requires c κs = search needs
+do-step-requires : tie.Need-do-step-requires
+do-step-requires c κs = search needs
 
-judge-step-requires : tie.Need-judge-step-requires
-judge-step-requires c κs = search needs
-
-carry-out-requires : tie.Need-carry-out-requires
-carry-out-requires c κs = let a = c .before .before .before .before .before .before .before .before .before .before .before .before .before .before .before .before .before .before .before .before .before .before .before .before .before .before .args in let t = tables (a .records .now) (a .known .now) (a .tags .now) (a .holders .now) (a .proposals .now) (a .ballots .now) (a .heard .now) (a .logs .now) in doable (a .numbers) (a .strip .now) (a .step) t (c .before .before .before .before .before .before .before .before .before .before .before .before .before .before .before .before .before .acting-of .ensures) (c .before .before .before .before .before .before .before .before .judge-step .ensures)
+answer-of-requires : tie.Need-answer-of-requires
+answer-of-requires c κs = search needs
 
 same-length : tie.Need-same-length
 same-length c = search needs
@@ -35,15 +32,14 @@ same-length-7 : tie.Need-same-length-7
 same-length-7 c = search needs
 
 returns : tie.Need-returns
-returns c = let a = c .before .before .before .before .before .before .before .before .before .before .before .before .before .before .before .before .before .before .before .before .before .before .before .before .before .before .before .before .before .before .before .before .before .before .before .before .before .before .before .before .before .args in let t = tables (a .records .now) (a .known .now) (a .tags .now) (a .holders .now) (a .proposals .now) (a .ballots .now) (a .heard .now) (a .logs .now) in is-step (a .numbers) (a .strip .now) (a .step) t (c .before .before .before .before .before .before .before .before .before .before .before .before .before .before .before .before .before .before .before .before .before .before .before .before .before .before .before .before .before .before .before .before .acting-of .ensures) (c .before .before .before .before .before .before .before .before .before .before .before .before .before .before .before .before .before .before .before .before .before .before .before .judge-step .ensures) (c .before .before .before .before .before .before .before .before .before .before .before .before .before .before .carry-out .ensures)
+returns c = let a = c .before .before .before .before .before .before .before .before .before .before .before .before .before .before .before .before .before .before .before .before .before .before .before .before .before .before .before .before .before .before .before .before .args in let t = tables (a .records .now) (a .known .now) (a .tags .now) (a .holders .now) (a .proposals .now) (a .ballots .now) (a .heard .now) (a .logs .now) in is-step (a .numbers) (a .strip .now) (a .step) t (c .before .before .before .before .before .before .before .before .before .before .before .before .before .before .before .do-step .ensures) (c .answer-of .ensures)
 
 pub take-step-spec : {M : Type 1} → statement M
 take-step-spec =
     tie.close
     (tie.spec
-    acting-of-requires
-    judge-step-requires
-    carry-out-requires
+    do-step-requires
+    answer-of-requires
     same-length
     same-length-2
     same-length-3
