@@ -7,7 +7,7 @@ use model::Numbers;
 use model::Sort;
 use model::Word;
 ghost use mathlib.Core.Path.{_≡_};
-ghost use Prim.Native.Nat.{_<_, _≤_};
+ghost use Prim.Native.Nat.{_<_};
 ghost use Rattle.tables.specs.View.{word-in, letter, sent-words, inbox-in};
 ghost use Rattle.tables.specs.Write.{word-number};
 ghost use Rattle.tables.specs.Addresses.{Within};

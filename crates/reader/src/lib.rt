@@ -9,8 +9,8 @@ use model::SlotIndex;
 use model::Step;
 ghost use mathlib.Core.Path.{_≡_};
 ghost use Prim.Native.Nat.{_+_, _≤_};
-ghost use lib.ListN.{length, getD};
-ghost use Rattle.reader.specs.Format.{number, byte, plan-at, hear-at, body-length, call-at, record-at};
+ghost use lib.ListN.{length};
+ghost use Rattle.reader.specs.Format.{number, plan-at, hear-at, body-length, call-at, record-at};
 
 pub enum Found {
     End,
