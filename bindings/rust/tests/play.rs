@@ -2,32 +2,14 @@
 
 use rushhopper::{play, play_within, Numbers};
 
-/// Document 01's input.
-const WORKED: [&[u8]; 8] = [
-    &[0, 3, 1, 2, 4, 4, 0, 0, 0],
-    &[1, 0, 5, 0, 0, 0, 0, 0, 0, 0, 2, 1, 5, 0, 0, 0, 0, 0, 0, 0, 1, 2, 9, 0, 0, 0, 0, 0, 0, 0],
-    &[3, 0, 3, 1, 3, 2],
-    &[4, 0, 1, 1, 0, 0, 5, 0, 4, 1, 0, 1, 0, 0, 5, 1],
-    &[4, 0, 1, 2, 0, 1, 5, 0, 4, 1, 0, 2, 0, 1, 5, 1],
-    &[4, 0, 1, 3, 0, 1, 5, 0, 5, 0],
-    &[4, 2, 0, 3, 0, 1, 5, 2],
-    &[6, 1, 4, 0, 1, 3, 0, 1],
-];
-
-const WORKED_REPORT: &str = "\
-controllers 3 spare 1
-refused 18 13
-refused 20 14
-refused 22 18
-bench 0 lit 1 5
-bench 1 dark 0
-bench 2 lit 0
-";
+/// Document 01's input and report, as the rehearsal program has them.
+const WORKED: &[u8] = include_bytes!("../../../crates/rehearse/stdin");
+const WORKED_REPORT: &str = include_str!("../../../examples/worked_session.report");
 
 #[test]
 fn worked_session() {
-    assert_eq!(play(&WORKED.concat()), WORKED_REPORT);
-    assert_eq!(play_within(Numbers::REHEARSAL, &WORKED.concat()), WORKED_REPORT);
+    assert_eq!(play(WORKED), WORKED_REPORT);
+    assert_eq!(play_within(Numbers::REHEARSAL, WORKED), WORKED_REPORT);
 }
 
 #[test]
