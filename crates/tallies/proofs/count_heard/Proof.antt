@@ -1,22 +1,14 @@
 use native.Mathlib.Omega.{arith}
-use Prim.Native.Nat.{ℕ, _≤_, _-_}
-use mathlib.Core.Path.{_≡_, sym, ap, _∙_}
+use Prim.Native.Nat.{_≤_, _-_}
+use mathlib.Core.Path.{_≡_, ap, _∙_}
 use mathlib.Core.Bool.{true, false}
 use borrow.Author.Needs.{needs}
 use Rattle.model.specs.declared.Word.the-variants.{Say}
-use Rattle.model.specs.Tests.{count}
-use Rattle.model.specs.Rack.{is, is-sent, Replica}
-use Rattle.model.specs.Rules.{seen}
-use Rattle.model.specs.declared.Sort.{Sort}
+use Rattle.model.specs.Rack.{is, is-sent}
 use Rattle.tallies.specs.Seat.{ears}
-use Rattle.tallies.proofs.CountLaws.{count-none, counted, counted-low, counted-all, within}
+use Rattle.tallies.proofs.CountLaws.{So-far, none-so-far, counted, counted-low, counted-all, within}
 use Rattle.tallies.proofs.count_heard.Statement.{statement}
 use Rattle.tallies.proofs.count_heard.Tie as tie
-
--- the counts of the first i senders
-abbrev So-far : Replica → Sort → ℕ → ℕ → ℕ → ℕ → ℕ → Type 0
-So-far k so p i all zeros ones =
-    (all ≡ count i (λ d. is-sent (seen k so p d))) × (zeros ≡ count i (λ d. is (Say false) (seen k so p d))) × (ones ≡ count i (λ d. is (Say true) (seen k so p d)))
 
 abbrev Inv-loop : tie.InvT-loop
 Inv-loop numbers who sort slot phase proposals ballots heard n all₀ zeros₀ ones₀ i₀ all zeros ones i = (i ≤ numbers .n) × So-far (ears numbers who slot phase proposals ballots heard) sort phase i all zeros ones
@@ -25,7 +17,7 @@ abbrev μ-loop : tie.MeasureT-loop
 μ-loop numbers who sort slot phase proposals ballots heard n all₀ zeros₀ ones₀ i₀ all zeros ones i = numbers .n - i
 
 loop-holds : tie.Need-loop-holds Inv-loop μ-loop
-loop-holds c = (omega arith, (sym (count-none _), sym (count-none _), sym (count-none _)))
+loop-holds c = (omega arith, none-so-far (ears (c .before .before .before .args .numbers) (c .before .before .before .args .who) (c .before .before .before .args .slot) (c .before .before .before .args .phase) (c .before .before .before .args .proposals .now) (c .before .before .before .args .ballots .now) (c .before .before .before .args .heard .now)) (c .before .before .before .args .sort) (c .before .before .before .args .phase) (omega arith) (omega arith) (omega arith))
 
 heard-word-requires : tie.Need-heard-word-requires Inv-loop μ-loop
 heard-word-requires c κs = let h = c .before .before .before .before .before .pre .seat .who in let b = c .before .before .before .before .before .pre .seat .reach .bounds .few in (omega arith, within (c .before .before .before .before .before .pre) (omega arith), c .before .before .before .before .before .pre .seat .reach)
