@@ -1,5 +1,5 @@
-//! `bench [--quick]`: nanoseconds of each call of the library beside the separate implementation, and how the
-//! library's grow, as two Markdown tables. `--quick` takes a tenth of the samples.
+//! `bench [--quick]`: nanoseconds and steps per second of each call of the library beside the separate
+//! implementation, and how the library's grow, as two Markdown tables. `--quick` takes a tenth of the samples.
 //! `bench --callgrind CALL N`: the library's call many times in a rack of N replicas, to count instructions.
 
 use separate::batch::{clock, Batch, Side};
@@ -128,9 +128,10 @@ fn print_tables(samples: usize) -> Result<(), String> {
         let case = case(kind, point);
         case.check().map_err(|difference| format!("{}: {difference}", case.name))?;
     }
-    let columns = "library, ns | separate, ns | library / separate | 10 % to 90 %";
+    let columns =
+        "library, ns | separate, ns | library, million/s | separate, million/s | ratio | 10 % to 90 %";
     println!("| call | known tags, closed slots | n | {columns} |");
-    println!("|---|---:|---:|---:|---:|---:|---:|");
+    println!("|---|---:|---:|---:|---:|---:|---:|---:|---:|");
     for (kind, point) in beside {
         println!("{}", row_beside(kind, point, samples)?);
     }
@@ -170,13 +171,16 @@ fn row_beside(kind: &Kind, point: Point, samples: usize) -> Result<String, Strin
     let [library, separate] = [&measured[0], &measured[1]];
     let ratios: Vec<f64> =
         library.iter().zip(separate).map(|(library, separate)| library / separate).collect();
+    let [library, separate] = [library, separate].map(|times| percentile(times, 50));
     Ok(format!(
-        "| {} | {}, {} | {n} | {} | {} | {:.2} | {:.2} to {:.2} |",
+        "| {} | {}, {} | {n} | {} | {} | {} | {} | {:.2} | {:.2} to {:.2} |",
         kind.words,
         fill.known,
         fill.closed,
-        rounded(percentile(library, 50)),
-        rounded(percentile(separate, 50)),
+        rounded(library),
+        rounded(separate),
+        millions(library),
+        millions(separate),
         percentile(&ratios, 50),
         percentile(&ratios, 10),
         percentile(&ratios, 90),
@@ -240,6 +244,16 @@ fn rounded(nanoseconds: f64) -> String {
         format!("{nanoseconds:.1}")
     } else {
         format!("{nanoseconds:.0}")
+    }
+}
+
+/// Millions of calls in a second.
+fn millions(nanoseconds: f64) -> String {
+    let millions = 1000.0 / nanoseconds;
+    if millions < 1.0 {
+        format!("{millions:.3}")
+    } else {
+        format!("{millions:.1}")
     }
 }
 
