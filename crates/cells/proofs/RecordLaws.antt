@@ -1,7 +1,7 @@
 -- A record that is not there, and one that is; a search for one that passes a test.
 use mathlib.Core.Path.{_≡_, refl, sym, _∙_, ap}
 use mathlib.Core.Bool.{Bool, true, false, _&&_, _||_}
-use mathlib.Core.Logic.{_⊎_, inl, inr}
+use mathlib.Core.Logic.{_≢_}
 use mathlib.Core.List.{List}
 use Prim.Native.Nat.{ℕ, _+_, _*_, _<_, _≤_}
 use native.Mathlib.Numerals.{add-one}
@@ -27,20 +27,19 @@ module _ (N : Numbers) (rs : List ℕ) (c : ℕ) where
   pub at-there : {k : Record} {b : Bool} → 4 * c + 4 ≤ length rs → k ≡ record-at rs c → b ≡ spoiled N k → b ≡ spoiled-at N rs c
   at-there h e q = q ∙ ap (spoiled N) e ∙ sym (ap (λ (b : Bool). b && spoiled N (record-at rs c)) (le-leb _ _ h))
 
--- ---- the state and vote rounds, which have a phase; and what is neither of these nor idle
+-- ---- the find round; and what is none of the others is a state or vote round, which have a phase
 module _ (N : Numbers) (k : Record) {r : Bool} where
-  pub in-ballots : 1 < k .round → k .round < 4 → r ≡ misplaced N State (k .slot) (k .phase) → r ≡ spoiled N k
+  pub in-find : k .round ≡ 4 → r ≡ leb (N .slots) (k .slot) → r ≡ spoiled N k
+  unfolding spoiled round-in misplaced if
+  in-find e q = rw e q
+
+  pub in-ballots : k .round ≤ 4 → k .round ≢ 0 → k .round ≢ 1 → k .round ≢ 4 → r ≡ misplaced N State (k .slot) (k .phase) → r ≡ spoiled N k
   unfolding spoiled round-in misplaced phase-in if
-  in-ballots l h q = go (ℕ-discrete (k .round) 2)
+  in-ballots h idle exchange find q = go (ℕ-discrete (k .round) 2)
     where
       go : Dec (k .round ≡ 2) → r ≡ spoiled N k
       go (yes e) = rw e q
       go (no ne) = let e : k .round ≡ 3 = omega arith in rw e q
-
-  pub in-others : (k .round ≡ 1) ⊎ (k .round ≡ 4) → r ≡ leb (N .slots) (k .slot) → r ≡ spoiled N k
-  unfolding spoiled round-in misplaced if
-  in-others (inl e) q = rw e q
-  in-others (inr e) q = rw e q
 
 -- ---- one of the first numbers passes
 

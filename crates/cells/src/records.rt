@@ -77,15 +77,16 @@ pub fn record_spoiled(numbers: Numbers, k: Record) -> bool
     if 4 < k.round {
         return true;
     }
-    if 1 < k.round {
-        if k.round < 4 {
-            return misplaced_phase(numbers, slot, phase);
-        }
-    }
     if k.round == 0 {
         return numbers.slots < slot;
     }
-    numbers.slots <= slot
+    if k.round == 1 {
+        return numbers.slots <= slot;
+    }
+    if k.round == 4 {
+        return numbers.slots <= slot;
+    }
+    misplaced_phase(numbers, slot, phase)
 }
 
 fn spoiled_record(numbers: Numbers, records: &[u16], c: usize) -> bool
