@@ -1,29 +1,43 @@
 -- What the calls keep: a refusal changes nothing at all, no call changes the length of a table or strip, and a step stores
 -- only in the tables that its rule speaks of.
-use Prim.Native.Nat.{ℕ, zero, suc}
+use Prim.Native.Nat.{ℕ, zero, suc, _≤_, _<_}
 use native.Mathlib.Omega.{arith}
-use mathlib.Core.Bool.{true, not}
-use mathlib.Core.List.{List}
+use mathlib.Core.Bool.{Bool, true, false, not, _||_}
+use mathlib.Core.Logic.{_⊎_, inl, inr, ⊎-elim}
+use mathlib.Core.List.{List, [], _∷_}
 use mathlib.Core.Option.{none}
-use mathlib.Core.Path.{_≡_, refl, sym, _∙_, ap}
+use mathlib.Core.Path.{_≡_, refl, sym, _∙_, ap, subst}
 use lib.Dec.{leb, ltb, eqb}
-use lib.ListN.{length, length-append, length-drop, length-replicate, length-set}
-use borrow.Author.Tests.{leb-true, ltb-true}
+use lib.ListN.{length, take, set as store-at, length-append, length-drop, length-replicate, length-set}
+use lib.Seq.{length-take-le}
+use borrow.Author.Tests.{leb-true, ltb-false, lt-ltb, not-false}
 use Rattle.tables.specs.declared.Record.{Record}
-use Rattle.tables.specs.Types.{Numbers, Plan, ReplicaId, Sort, Proposals, States, Votes, Refusal, Effect, Refuse, Hold, Send, Close, Seek, Receive, Halt, Step, Submit, Relay, Begin, Hear, Advance, Crash, Call, Open, Single, RunOn, Answer, Refused, Done, Ran, Opened}
-use Rattle.model.specs.Tests.{if}
-use Rattle.model.specs.Limits.{planned}
-use Rattle.model.specs.History.{acting, told, most-advances}
-use Rattle.coin.specs.Strip.{StripOutcome, strip-filled}
+use Rattle.tables.specs.Types.{Numbers, Plan, ReplicaId, Sort, Proposals, States, Votes, Refusal, Effect, Refuse}
+use Rattle.tables.specs.Types.{Hold, Send, Close, Seek, Receive, Halt, Act, Submit, Relay, Begin, Hear, Advance}
+use Rattle.tables.specs.Types.{Crash, Step, Call, Open, Single, RunOn, Answer, Refused, Done, Ran, Opened}
+use Rattle.model.specs.Tests.{if, some, listed}
+use Rattle.model.specs.Limits.{limited, planned}
+use Rattle.model.specs.Rules.{is-crash}
+use Rattle.model.specs.Scripts.{Script, play, answered, single, advance, running, most-advances, run-on}
+use Rattle.coin.specs.Strip.{StripOutcome, strip-refusals, strip-filled}
 use Rattle.coin.specs.Law.{length-filled}
-use Rattle.model.proofs.Cases.{and-true, if-ind, require-ind}
-use Rattle.safety.specs.Comes.{ByRule, by-submit, by-relay, by-begin, by-hear, by-exchange, by-state, by-outcome-0, by-outcome-1, by-seek, by-next-phase, by-find, by-crash, Comes, refused, ruled, comes}
-use Rattle.tables.specs.Layout.{Tables, record-at, record-stored, records-need, proposals-need, ballots-need, heard-need}
-use Rattle.tables.specs.View.{below, view}
-use Rattle.tables.specs.Write.{proposal-stored, ballot-stored, tags-held, holders-held, write}
-use Rattle.tables.specs.Checks.{lengths, long, checked}
-use Rattle.tables.specs.Calls.{crash-judged, crashed, judge, performed, stepped, advances-on, ran-on, cleared, opened, OpenOutcome, open-rack, called}
-use Rattle.promises.specs.Order.{turned-away}
+use Rattle.model.proofs.Cases.{clash, and-true, or-false, if-ind, Unmet, unless-ind, unmet-both}
+use Rattle.model.proofs.Playing.{play-keeps}
+use Rattle.safety.specs.Comes.{ByRule, by-submit, by-relay, by-begin, by-hear, by-exchange, by-state}
+use Rattle.safety.specs.Comes.{by-outcome-0, by-outcome-1, by-seek, by-next-phase, by-find, by-crash, past}
+use Rattle.tables.specs.Layout.{Tables, known-in, record-at, record-stored, heard-cell, proposal-cell}
+use Rattle.tables.specs.Layout.{words-need, orders-need}
+use Rattle.tables.specs.View.{only, view}
+use Rattle.tables.specs.Write.{place-in, proposal-stored, ballot-stored, orders-held, words-held, write}
+use Rattle.tables.specs.Checks.{lengths, long, tables-refusals, record-refusals}
+use Rattle.tables.specs.Calls.{CrashOutcome, crash-refusals, crashed, lent-refusals, judge, performed, on-tables}
+use Rattle.tables.specs.Calls.{stepped, ran-on, cleared, opened, OpenOutcome, opening-refusals, open-rack, called}
+use Rattle.tables.specs.Addresses.{proposal-in}
+use Rattle.tables.specs.Bounds.{is-long}
+use Rattle.tables.specs.Sections.{agree-self, agree-more, elsewhere, record-elsewhere, SameHead}
+use Rattle.tables.specs.Sections.{SameRecords, SameHolders, SameHeard, SameTags, SameProposals, SameLogs}
+use Rattle.promises.specs.Order.{turned-away, step-refusals}
+use Rattle.promises.specs.Refusals.{running-accepts}
 
 -- ---- "A refusal returns its number and changes nothing at all." Of the strip call, the crate coin proves it.
 
@@ -32,7 +46,7 @@ accepting : {A : Type 0} (good : Answer) → turned-away good ≡ none → (why 
 accepting good h why q = absurd (let r = sym h ∙ ap turned-away q in let z : _≡_ {A = ℕ} 0 1 = cc in omega arith)
 
 -- and an answer that refuses is the one of an effect that does
-refused-effect : (good : Answer) → turned-away good ≡ none → (why : Refusal) (e : Effect) → told good e ≡ Refused why → e ≡ Refuse why
+refused-effect : (good : Answer) → turned-away good ≡ none → (why : Refusal) (e : Effect) → answered good e ≡ Refused why → e ≡ Refuse why
 refused-effect good h why =
     elim [ Refuse w ↦ λ q. cc | Hold x ↦ never | Send so p w ↦ never | Close x ↦ never | Seek ↦ never | Receive so s p d w ↦ never | Halt ↦ never ]
   where
@@ -40,31 +54,34 @@ refused-effect good h why =
     never = accepting good h why
 
 module _ (N : Numbers) (strip : List ℕ) where
-  pub refused-step-unchanged : (a : Step) (t : Tables) (why : Refusal) → stepped N strip a t .answer ≡ Refused why → stepped N strip a t .tables ≡ t
-  unfolding stepped write
+  pub refused-step-unchanged : (a : Step) (t : Tables) (why : Refusal) → stepped N strip a t .answer ≡ Refused why → stepped N strip a t .state ≡ t
+  unfolding stepped play write
   refused-step-unchanged a t why q = rw (refused-effect Done refl why (judge N strip a t) q)
 
-  stays : (c : ReplicaId) (t : Tables) (why : Refusal) → judge N strip (Advance c) t ≡ Refuse why → (k : ℕ) → advances-on N strip c k t ≡ t
-  unfolding advances-on write if
-  stays c t why e zero = refl
-  stays c t why e (suc k) = rw e
+  -- refused, a run on made no advance that was accepted
+  stays : (c : ReplicaId) (t : Tables) (why : Refusal) (most : ℕ)
+      → let p = play (on-tables N strip) (running c most 0) t in p .answer ≡ Refused why → p .state ≡ t
+  unfolding running play write
+  stays c t why zero q = accepting (Ran 0) refl why q
+  stays c t why (suc most) q = let next = performed N strip (advance c) t in
+      if-ind (λ (x : Script). let p = play (on-tables N strip) x next in p .answer ≡ Refused why → p .state ≡ t) _
+      (λ _ q. accepting _ (running-accepts N strip c most 0 next) why q)
+      (λ _ q. ap (λ (e : Effect). write N (c .0) e t) (refused-effect (Ran 1) refl why (judge N strip (advance c) t) q)) q
 
-  pub refused-run-on-unchanged : (c : ReplicaId) (t : Tables) (why : Refusal) → ran-on N strip c t .answer ≡ Refused why → ran-on N strip c t .tables ≡ t
+  pub refused-run-on-unchanged : (c : ReplicaId) (t : Tables) (why : Refusal) → ran-on N strip c t .answer ≡ Refused why → ran-on N strip c t .state ≡ t
   unfolding ran-on
-  refused-run-on-unchanged c t why q = stays c t why (refused-effect (Ran _) refl why _ q) (most-advances N)
+  refused-run-on-unchanged c t why q = stays c t why (most-advances N) q
 
 pub refused-crash-unchanged : (N : Numbers) (c : ℕ) (k : Record) (why : Refusal) → crashed N c k .answer ≡ Refused why → crashed N c k .after ≡ k
-unfolding crashed if
-refused-crash-unchanged N c k why q = rw (refused-effect Done refl why (crash-judged N c k) q)
+unfolding crashed
+refused-crash-unchanged N c k why =
+    unless-ind (λ (o : CrashOutcome). o .answer ≡ Refused why → o .after ≡ k) (crash-refusals N c k) (λ w e. refl) (λ _. accepting Done refl why)
 
 pub refused-opening-unchanged : (q : Plan) (t : Tables) (strip : List ℕ) (why : Refusal) → open-rack q t strip .answer ≡ Refused why
     → (open-rack q t strip .tables ≡ t) × (open-rack q t strip .strip ≡ strip)
 unfolding open-rack
-refused-opening-unchanged q t strip why =
-    if-ind Same _ (λ _. if-ind Same _ (λ _. accepting (Opened (planned q)) refl why) (λ _ e. (refl, refl))) (λ _ e. (refl, refl))
-  where
-    Same : OpenOutcome → Type 0
-    Same o = o .answer ≡ Refused why → (o .tables ≡ t) × (o .strip ≡ strip)
+refused-opening-unchanged q t strip why = unless-ind (λ (o : OpenOutcome). o .answer ≡ Refused why → (o .tables ≡ t) × (o .strip ≡ strip))
+    (opening-refusals q t strip) (λ w e. (refl, refl)) (λ _. accepting (Opened (planned q)) refl why)
 
 pub refused-unchanged : (N : Numbers) (a : Call) (t : Tables) (strip : List ℕ) (why : Refusal) → called N a t strip .answer ≡ Refused why
     → (called N a t strip .tables ≡ t) × (called N a t strip .strip ≡ strip)
@@ -89,11 +106,11 @@ ballots-length Proposals i v l = refl
 ballots-length States i v l = length-set l i v
 ballots-length Votes i v l = length-set l i v
 
-tags-length : (x k : ℕ) (ts : List ℕ) → length (tags-held x k ts) ≡ length ts
-tags-length x k ts = if-ind (λ (l : List ℕ). length l ≡ length ts) _ (λ _. refl) (λ _. rw length-set)
+tags-length : (x k : ℕ) (os : List ℕ) → length (orders-held x k os) ≡ length os
+tags-length x k os = if-ind (λ (l : List ℕ). length l ≡ length os) _ (λ _. refl) (λ _. rw length-set)
 
-holders-length : (c x k : ℕ) (ts hs : List ℕ) → length (holders-held c x k ts hs) ≡ length hs
-holders-length c x k ts hs = if-ind (λ (l : List ℕ). length l ≡ length hs) _ (λ _. rw length-set) (λ _. rw length-set)
+holders-length : (N : Numbers) (c x : ℕ) (os ws : List ℕ) → length (words-held N c x os ws) ≡ length ws
+holders-length N c x os ws = if-ind (λ (l : List ℕ). length l ≡ length ws) _ (λ _. rw length-set) (λ _. simp length-set)
 
 write-lengths : (N : Numbers) (c : ℕ) (e : Effect) (t : Tables) → lengths (write N c e t) ≡ lengths t
 unfolding write
@@ -112,51 +129,35 @@ opened-lengths : (N : Numbers) (t : Tables) → long N (lengths t) ≡ true → 
 unfolding opened long
 opened-lengths N t e =
     let l = lengths t in
-    let (a, e₁) = and-true (leb (records-need N) (l .records)) _ e in
-    let (b, e₂) = and-true (leb (N .room) (l .tags)) _ e₁ in
-    let (c, e₃) = and-true (leb (N .room) (l .holders)) _ e₂ in
-    let (d, e₄) = and-true (leb (proposals-need N) (l .proposals)) _ e₃ in
-    let (f, e₅) = and-true (leb (ballots-need N) (l .ballots)) _ e₄ in
-    let (g, h) = and-true (leb (heard-need N) (l .heard)) _ e₅ in
+    let (a, e₁) = and-true (leb (words-need N) (l .words)) _ e in
+    let (b, c) = and-true (leb (orders-need N) (l .orders)) _ e₁ in
     simp cleared-length
 
--- what every advance keeps, a run on keeps
-advances-keep : (N : Numbers) (strip : List ℕ) (c : ReplicaId) (P : Tables → Type 0)
-    → ((t : Tables) → P t → P (performed N strip (Advance c) t)) → (k : ℕ) (t : Tables) → P t → P (advances-on N strip c k t)
-unfolding advances-on
-advances-keep N strip c P step zero t p = p
-advances-keep N strip c P step (suc k) t p = let next = step t p in if-ind P _ (λ _. advances-keep N strip c P step k _ next) (λ _. next)
-
 module _ (N : Numbers) (strip : List ℕ) where
-  pub step-lengths-kept : (a : Step) (t : Tables) → lengths (stepped N strip a t .tables) ≡ lengths t
-  unfolding stepped
-  step-lengths-kept a t = write-lengths N (acting a) (judge N strip a t) t
+  script-lengths : (x : Script) (t : Tables) → lengths (play (on-tables N strip) x t .state) ≡ lengths t
+  script-lengths x t = play-keeps (on-tables N strip) (λ (u : Tables). lengths u ≡ lengths t) (λ a u e. write-lengths N _ (judge N strip a u) u ∙ e) x t refl
 
-  pub run-on-lengths-kept : (c : ReplicaId) (t : Tables) → lengths (ran-on N strip c t .tables) ≡ lengths t
+  pub step-lengths-kept : (a : Step) (t : Tables) → lengths (stepped N strip a t .state) ≡ lengths t
+  unfolding stepped
+  step-lengths-kept a t = script-lengths (single a) t
+
+  pub run-on-lengths-kept : (c : ReplicaId) (t : Tables) → lengths (ran-on N strip c t .state) ≡ lengths t
   unfolding ran-on
-  run-on-lengths-kept c t =
-      advances-keep N strip c (λ (u : Tables). lengths u ≡ lengths t) (λ u e. write-lengths N _ (judge N strip (Advance c) u) u ∙ e) (most-advances N) t refl
+  run-on-lengths-kept c t = script-lengths (run-on N c) t
 
 pub opening-lengths-kept : (q : Plan) (t : Tables) (strip : List ℕ)
     → (lengths (open-rack q t strip .tables) ≡ lengths t) × (length (open-rack q t strip .strip) ≡ length strip)
-unfolding open-rack
-opening-lengths-kept q t strip =
-    if-ind Same _ (λ _. if-ind Same _ (λ e. let (a, b) = and-true (long N (lengths t)) _ e in
-    (opened-lengths N t a, length-filled (N .slots) (N .phases) (q .start) strip (leb-true _ _ b))) (λ _. (refl, refl))) (λ _. (refl, refl))
-  where
-    N : Numbers
-    N = planned q
-
-    Same : OpenOutcome → Type 0
-    Same o = (lengths (o .tables) ≡ lengths t) × (length (o .strip) ≡ length strip)
+unfolding open-rack Unmet
+opening-lengths-kept q t strip = let N = planned q in
+    unless-ind (λ (o : OpenOutcome). (lengths (o .tables) ≡ lengths t) × (length (o .strip) ≡ length strip)) (opening-refusals q t strip)
+    (λ _. (refl, refl)) (λ u.
+    let (a, b) = or-false (not (long N (lengths t))) _ (u .1 .0) in
+    (opened-lengths N t (not-false _ a), length-filled (N .slots) (N .phases) (q .start) strip (ltb-false _ _ b)))
 
 pub strip-length-kept : (slots phases start : ℕ) (strip : List ℕ) → length (strip-filled slots phases start strip .strip) ≡ length strip
-unfolding strip-filled
-strip-length-kept slots phases start strip =
-    if-ind Same _ (λ _. if-ind Same _ (λ e. length-filled slots phases start strip (leb-true _ _ e)) (λ _. refl)) (λ _. refl)
-  where
-    Same : StripOutcome → Type 0
-    Same o = length (o .strip) ≡ length strip
+unfolding strip-filled Unmet
+strip-length-kept slots phases start strip = unless-ind (λ (o : StripOutcome). length (o .strip) ≡ length strip) (strip-refusals slots phases start strip)
+    (λ _. refl) (λ u. length-filled slots phases start strip (ltb-false _ _ (u .1 .0)))
 
 pub lengths-kept : (N : Numbers) (a : Call) (t : Tables) (strip : List ℕ)
     → (lengths (called N a t strip .tables) ≡ lengths t) × (length (called N a t strip .strip) ≡ length strip)
@@ -165,90 +166,178 @@ lengths-kept N (Open q) t strip = opening-lengths-kept q t strip
 lengths-kept N (Single a) t strip = (step-lengths-kept N strip a t, refl)
 lengths-kept N (RunOn c) t strip = (run-on-lengths-kept N strip c t, refl)
 
--- ---- the tables that a step may change
+-- ---- the sections that a step may change
 
--- the tables before and after a step: what it keeps. It may change the others, which stand above each.
-module _ (t u : Tables) where
+place-inside : (x : ℕ) (xs : List ℕ) → listed x xs ≡ true → place-in x xs < length xs
+unfolding place-in some if
+place-inside x [] e = clash e
+place-inside x (y ∷ ys) e = go (eqb x y) e (place-inside x ys)
+  where
+    go : (b : Bool) → (b || listed x ys) ≡ true → (listed x ys ≡ true → place-in x ys < length ys) → if b 0 (suc (place-in x ys)) < suc (length ys)
+    go true h below = omega arith
+    go false h below = let a = below h in omega arith
+
+-- the memories before and after a step: what it keeps. It may change the other sections, which stand above each.
+module _ (N : Numbers) (t u : Tables) where
   abbrev SameOrders : Type 0
-  SameOrders = (u .known ≡ t .known) × (u .tags ≡ t .tags) × (u .holders ≡ t .holders)
+  SameOrders = SameHead N (t .words) (u .words) × SameHolders N (t .words) (u .words) × SameTags N (t .orders) (u .orders)
 
-  abbrev OrdersOnly : Type 0
-  OrdersOnly = (u .records ≡ t .records) × (u .proposals ≡ t .proposals) × (u .ballots ≡ t .ballots) × (u .heard ≡ t .heard) × (u .logs ≡ t .logs)
+  abbrev HeldOnly : Type 0
+  HeldOnly = SameRecords N (t .words) (u .words) × SameHeard N (t .words) (u .words) × SameProposals N (t .orders) (u .orders)
+      × SameLogs N (t .orders) (u .orders) × (u .ballots ≡ t .ballots)
 
-  abbrev pub TouchesOnly : Step → Type 0
+  abbrev pub TouchesOnly : Act → Type 0
   -- known, tags, holders
-  TouchesOnly (Submit c x) = OrdersOnly
-  TouchesOnly (Relay c x) = OrdersOnly
+  TouchesOnly (Submit x) = HeldOnly
+  TouchesOnly (Relay x) = HeldOnly
   -- records, proposals, heard
-  TouchesOnly (Begin c) = SameOrders × (u .ballots ≡ t .ballots) × (u .logs ≡ t .logs)
+  TouchesOnly Begin = SameOrders × SameLogs N (t .orders) (u .orders) × (u .ballots ≡ t .ballots)
   -- heard
-  TouchesOnly (Hear c d so s p) =
-      SameOrders × (u .records ≡ t .records) × (u .proposals ≡ t .proposals) × (u .ballots ≡ t .ballots) × (u .logs ≡ t .logs)
+  TouchesOnly (Hear m) = SameOrders × SameRecords N (t .words) (u .words) × (u .orders ≡ t .orders) × (u .ballots ≡ t .ballots)
   -- records, ballots, heard, logs
-  TouchesOnly (Advance c) = SameOrders × (u .proposals ≡ t .proposals)
+  TouchesOnly Advance = SameOrders × SameProposals N (t .orders) (u .orders)
   -- records
-  TouchesOnly (Crash c) =
-      SameOrders × (u .proposals ≡ t .proposals) × (u .ballots ≡ t .ballots) × (u .heard ≡ t .heard) × (u .logs ≡ t .logs)
-
--- a replica that is there has crashed if its record says so
-pub own-crashed : (N : Numbers) (t : Tables) (c : ℕ) → ltb c (N .n) ≡ true → view N t .at c .crashed ≡ not (eqb (record-at (t .records) c .crashed) 0)
-unfolding below if
-own-crashed N t c e = rw e
+  TouchesOnly Crash = SameOrders × SameHeard N (t .words) (u .words) × (u .orders ≡ t .orders) × (u .ballots ≡ t .ballots)
 
 module _ (N : Numbers) (strip : List ℕ) where
-  -- a step on the tables comes to a refusal, or to the effect of one rule on their view
-  behind-checks : (t : Tables) (a : Step) {e : Effect} → Comes N (view N t) a e → Comes N (view N t) a (checked N t e)
-  behind-checks t a h = let P = Comes N (view N t) a in
-      require-ind P _ (refused _) (λ _. require-ind P _ (refused _) (λ _. require-ind P _ (refused _) (λ _. require-ind P _ (refused _) (λ _. h))))
+  same-orders : (t : Tables) → SameOrders N t t
+  same-orders t = (agree-self _, agree-self _, agree-self _)
 
-  judge-comes : (t : Tables) (a : Step) → Comes N (view N t) a (judge N strip a t)
-  unfolding judge crash-judged
-  judge-comes t (Submit c x) = behind-checks t _ (comes N (view N t) strip (Submit c x))
-  judge-comes t (Relay c x) = behind-checks t _ (comes N (view N t) strip (Relay c x))
-  judge-comes t (Begin c) = behind-checks t _ (comes N (view N t) strip (Begin c))
-  judge-comes t (Hear c d so s p) = behind-checks t _ (comes N (view N t) strip (Hear c d so s p))
-  judge-comes t (Advance c) = behind-checks t _ (comes N (view N t) strip (Advance c))
-  judge-comes t (Crash c) = let P = Comes N (view N t) (Crash c) in
-      require-ind P _ (refused _) (λ _. require-ind P _ (refused _) (λ _. require-ind P _ (refused _) (λ _. require-ind P _ (refused _) (λ _.
-      require-ind P _ (refused _) (λ there. require-ind P _ (refused _) (λ running.
-      ruled (record { there = ltb-true _ _ there; running = own-crashed N t (c .0) there ∙ ap not running }) by-crash))))))
+  untouched : (t : Tables) (a : Act) → TouchesOnly N t t a
+  untouched t (Submit x) = (agree-self _, agree-self _, agree-self _, agree-self _, refl)
+  untouched t (Relay x) = (agree-self _, agree-self _, agree-self _, agree-self _, refl)
+  untouched t Begin = (same-orders t, agree-self _, refl)
+  untouched t (Hear m) = (same-orders t, agree-self _, refl, refl)
+  untouched t Advance = (same-orders t, agree-self _)
+  untouched t Crash = (same-orders t, agree-self _, refl, refl)
 
-  untouched : (t : Tables) (a : Step) → TouchesOnly t t a
-  untouched t (Submit c x) = (refl, refl, refl, refl, refl)
-  untouched t (Relay c x) = (refl, refl, refl, refl, refl)
-  untouched t (Begin c) = ((refl, refl, refl), refl, refl)
-  untouched t (Hear c d so s p) = ((refl, refl, refl), refl, refl, refl, refl)
-  untouched t (Advance c) = ((refl, refl, refl), refl)
-  untouched t (Crash c) = ((refl, refl, refl), refl, refl, refl, refl)
+  module _ (t : Tables) where
+    abbrev ws : List ℕ
+    ws = t .words
 
-  rule-touches : (t : Tables) (a : Step) {e : Effect} → ByRule N (view N t) a e → TouchesOnly t (write N (acting a) e t) a
-  unfolding write
-  rule-touches t (Submit c x) (by-submit ne h l) = (refl, refl, refl, refl, refl)
-  rule-touches t (Relay c x) (by-relay ne l h) = (refl, refl, refl, refl, refl)
-  rule-touches t (Begin c) (by-begin i l ne) = ((refl, refl, refl), refl, refl)
-  rule-touches t (Hear c d k s p) (by-hear so l m q w h) = ((refl, refl, refl), refl, refl, refl, refl)
-  rule-touches t (Advance c) (by-exchange i q) = ((refl, refl, refl), refl)
-  rule-touches t (Advance c) (by-state i q) = ((refl, refl, refl), refl)
-  rule-touches t (Advance c) (by-outcome-0 v o) = ((refl, refl, refl), refl)
-  rule-touches t (Advance c) (by-outcome-1 v o ne) = ((refl, refl, refl), refl)
-  rule-touches t (Advance c) (by-seek v o z) = ((refl, refl, refl), refl)
-  rule-touches t (Advance c) (by-next-phase flip v o l) = ((refl, refl, refl), refl)
-  rule-touches t (Advance c) (by-find i ne) = ((refl, refl, refl), refl)
-  rule-touches t (Crash c) by-crash = ((refl, refl, refl), refl, refl, refl, refl)
+    abbrev os : List ℕ
+    os = t .orders
 
-  came-touches : (t : Tables) (a : Step) {e : Effect} → Comes N (view N t) a e → TouchesOnly t (write N (acting a) e t) a
-  unfolding write
-  came-touches t a (refused why) = untouched t a
-  came-touches t a (ruled acts rule) = rule-touches t a rule
+    abbrev k : ℕ
+    k = known-in ws
 
-  pub touches-only : (a : Step) (t : Tables) → TouchesOnly t (stepped N strip a t .tables) a
-  unfolding stepped
-  touches-only a t = came-touches t a (judge-comes t a)
+    -- a record is stored in the section of records; a mark behind the holders
+    module _ (ws′ : List ℕ) (c : ℕ) (there : c < N .n) (k : Record) where
+      head-kept : SameHead N ws′ (record-stored ws′ c k)
+      head-kept = record-elsewhere ws′ c k (inr (omega arith))
 
-  pub run-on-touches-only : (c : ReplicaId) (t : Tables) → TouchesOnly t (ran-on N strip c t .tables) (Advance c)
+      holders-kept : SameHolders N ws′ (record-stored ws′ c k)
+      holders-kept = record-elsewhere ws′ c k (inl (omega arith))
+
+      heard-kept : SameHeard N ws′ (record-stored ws′ c k)
+      heard-kept = record-elsewhere ws′ c k (inl (omega arith))
+
+    marked-head : (so : Sort) (s p d v : ℕ) → SameHead N ws (store-at ws (heard-cell N so s p d) v)
+    marked-head so s p d v = elsewhere ws _ v (inr (omega arith))
+
+    marked-holders : (so : Sort) (s p d v : ℕ) → SameHolders N ws (store-at ws (heard-cell N so s p d) v)
+    marked-holders so s p d v = elsewhere ws _ v (inr (omega arith))
+
+    sends-keeps : (c : ℕ) → c < N .n → (so : Sort) (s p v : ℕ) (k : Record) {os′ : List ℕ} → SameTags N os os′
+        → (SameHead N ws (record-stored (store-at ws (heard-cell N so s p c) v) c k))
+        × (SameHolders N ws (record-stored (store-at ws (heard-cell N so s p c) v) c k)) × (SameTags N os os′)
+    sends-keeps c there so s p v k tags =
+        (agree-more (marked-head so s p c v) (head-kept _ c there k), agree-more (marked-holders so s p c v) (holders-kept _ c there k), tags)
+
+    record-keeps : (c : ℕ) → c < N .n → (k : Record) {os′ : List ℕ} → SameTags N os os′
+        → (SameHead N ws (record-stored ws c k)) × (SameHolders N ws (record-stored ws c k)) × (SameTags N os os′)
+    record-keeps c there k tags = (head-kept ws c there k, holders-kept ws c there k, tags)
+
+    -- the checks leave known that the tags are within the room
+    hold-touches : k ≤ N .room → k ≤ length os → (c x : ℕ) → (listed x (take k os) ≡ true) ⊎ (length (take k os) < N .room)
+        → HeldOnly N t (write N c (Hold x) t)
+    unfolding write
+    hold-touches few long c x fits = (
+      if-ind (SameRecords N ws) _ (λ e. elsewhere ws _ _ (inr (omega arith)))
+          (λ e. agree-more (elsewhere ws _ _ (inr (omega arith))) (elsewhere _ 0 _ (inl (omega arith)))),
+      if-ind (SameHeard N ws) _ (λ e. let l = place-low e in elsewhere ws _ _ (inl (omega arith)))
+          (λ e. let l = room-left e in agree-more (elsewhere ws _ _ (inl (omega arith))) (elsewhere _ 0 _ (inl (omega arith)))),
+      if-ind (SameProposals N os) _ (λ e. agree-self os) (λ e. let l = room-left e in elsewhere os _ _ (inl (omega arith))),
+      if-ind (SameLogs N os) _ (λ e. agree-self os) (λ e. let l = room-left e in elsewhere os _ _ (inl (omega arith))),
+      refl,
+    )
+      where
+        place-low : listed x (take k os) ≡ true → place-in x (take k os) < k
+        place-low e = subst (λ (b : ℕ). place-in x (take k os) < b) (length-take-le k os long) (place-inside x (take k os) e)
+
+        room-left : listed x (take k os) ≡ false → k < N .room
+        room-left e = ⊎-elim (λ q. clash (sym e ∙ q)) (λ l. subst (λ (j : ℕ). j < N .room) (length-take-le k os long) l) fits
+
+    closing-touches : (c : ℕ) → c < N .n → (x : ℕ) → TouchesOnly N t (write N c (Close x) t) Advance
+    unfolding write
+    closing-touches c there x = (record-keeps c there _ (elsewhere os _ x (inr (omega arith))), elsewhere os _ x (inr (omega arith)))
+
+    slot-low : (c : ℕ) → c < N .n → view N t .at c .closed < N .slots → record-at ws c .slot < N .slots
+    unfolding only if
+    slot-low c there l = rw (lt-ltb c (N .n) there) at l
+
+    -- what the refusals of what is lent leave known
+    lent-few : (c : ReplicaId) (a : Act) → is-crash a ≡ false → Unmet (lent-refusals N (record { who = c; act = a }) t) → (k ≤ N .room) × (k ≤ length os)
+    unfolding Unmet if
+    lent-few c a e u =
+        let (spoiled, (short, _)) = subst (λ (b : Bool). Unmet (if b (record-refusals N t (c .0)) (tables-refusals N t))) e u in
+        let few = ltb-false _ _ (or-false (ltb (N .room) k) _ (or-false (not (limited N)) _ spoiled .1) .0) in
+        let enough = is-long N (lengths t) (not-false _ short) .orders in (few, omega arith)
+
+    rule-touches : (c : ReplicaId) (a : Act) {e : Effect} → Unmet (lent-refusals N (record { who = c; act = a }) t) → c .0 < N .n
+        → ByRule N (view N t) (view N t .at (c .0)) a e → TouchesOnly N t (write N (c .0) e t) a
+    unfolding write
+    rule-touches c (Submit x) lent there (by-submit ne h l) = let (few, long) = lent-few c (Submit x) refl lent in hold-touches few long (c .0) x l
+    rule-touches c (Relay x) lent there (by-relay ne l h) = let (few, long) = lent-few c (Relay x) refl lent in hold-touches few long (c .0) x (inl l)
+    rule-touches c Begin lent there (by-begin i l ne) =
+        let low = slot-low (c .0) there l in (
+          sends-keeps (c .0) there Proposals _ 0 _ _ (elsewhere os _ _ (inr (omega arith))),
+          elsewhere os (proposal-cell N (record-at ws (c .0) .slot) (c .0)) _
+              (inl (let h = proposal-in N (record-at ws (c .0) .slot) (c .0) low there in omega arith)),
+          refl,
+        )
+    rule-touches c (Hear m) lent there (by-hear so l s q w h) = (
+      (
+        marked-head so (m .slot .0) (m .phase .0) (m .sender .0) _,
+        marked-holders so (m .slot .0) (m .phase .0) (m .sender .0) _,
+        agree-self os,
+      ),
+      elsewhere ws _ _ (inr (omega arith)),
+      refl,
+      refl,
+    )
+    rule-touches c Advance lent there (by-exchange i q) = (sends-keeps (c .0) there States _ 1 _ _ (agree-self os), agree-self os)
+    rule-touches c Advance lent there (by-state i q) = (sends-keeps (c .0) there Votes _ _ _ _ (agree-self os), agree-self os)
+    rule-touches c Advance lent there (by-outcome-0 v o) = closing-touches (c .0) there 0
+    rule-touches c Advance lent there (by-outcome-1 v o ne) = closing-touches (c .0) there _
+    rule-touches c Advance lent there (by-seek v o z) = (record-keeps (c .0) there _ (agree-self os), agree-self os)
+    rule-touches c Advance lent there (by-next-phase flip v o l) = (sends-keeps (c .0) there States _ _ _ _ (agree-self os), agree-self os)
+    rule-touches c Advance lent there (by-find i ne) = closing-touches (c .0) there _
+    rule-touches c Crash lent there by-crash = (record-keeps (c .0) there _ (agree-self os), heard-kept ws (c .0) there _, refl, refl)
+
+  came-touches : (t : Tables) (a : Step) → TouchesOnly N t (performed N strip a t) (a .act)
+  unfolding judge write
+  came-touches t a = unless-ind (λ (e : Effect). TouchesOnly N t (write N (a .who .0) e t) (a .act)) (step-refusals N strip a t)
+      (λ why. untouched t (a .act)) (λ u.
+      let (lent, rest) = unmet-both (lent-refusals N a t) _ u in
+      let (acts, rule) = past N (view N t) strip a rest in rule-touches t (a .who) (a .act) lent (acts .there) rule)
+
+  pub touches-only : (a : Step) (t : Tables) → TouchesOnly N t (stepped N strip a t .state) (a .act)
+  unfolding stepped play
+  touches-only a t = came-touches t a
+
+  -- what every advance keeps, a run on keeps
+  running-keeps : (c : ReplicaId) (P : Tables → Type 0) → ((t : Tables) → P t → P (performed N strip (advance c) t))
+      → (most k : ℕ) (t : Tables) → P t → P (play (on-tables N strip) (running c most k) t .state)
+  unfolding running play
+  running-keeps c P step zero k t p = p
+  running-keeps c P step (suc most) k t p = let u = performed N strip (advance c) t in let q = step t p in
+      if-ind (λ (x : Script). P (play (on-tables N strip) x u .state)) _ (λ _. running-keeps c P step most (suc k) u q) (λ _. q)
+
+  pub run-on-touches-only : (c : ReplicaId) (t : Tables) → TouchesOnly N t (ran-on N strip c t .state) Advance
   unfolding ran-on
-  run-on-touches-only c t = advances-keep N strip c (λ (u : Tables). TouchesOnly t u (Advance c)) further (most-advances N) t (untouched t (Advance c))
+  run-on-touches-only c t = running-keeps c (λ (u : Tables). TouchesOnly N t u Advance) further (most-advances N) 0 t (untouched t Advance)
     where
-      further : (u : Tables) → TouchesOnly t u (Advance c) → TouchesOnly t (performed N strip (Advance c) u) (Advance c)
-      further u h = let k = came-touches u (Advance c) (judge-comes u (Advance c)) in
-          ((k .0 .0 ∙ h .0 .0, k .0 .1 ∙ h .0 .1, k .0 .2 ∙ h .0 .2), k .1 ∙ h .1)
+      further : (u : Tables) → TouchesOnly N t u Advance → TouchesOnly N t (performed N strip (advance c) u) Advance
+      further u h = let k = came-touches u (advance c) in
+          ((agree-more (h .0 .0) (k .0 .0), agree-more (h .0 .1) (k .0 .1), agree-more (h .0 .2) (k .0 .2)), agree-more (h .1) (k .1))

@@ -4,6 +4,11 @@ pub mod Bounds
 pub mod Addresses
 pub mod View
 pub mod Records
+pub mod Masks
+pub mod Sections
 pub mod Write
 pub mod Checks
 pub mod Calls
+pub mod Crashes
+pub mod Lent
+pub mod Sound

@@ -1,0 +1,100 @@
+-- What is known of a record that is not spoiled, and of memories where refusals 3 and 2 of a step are not met.
+use Prim.Native.Nat.{ℕ, _≤_, _<_}
+use native.Mathlib.Omega.{arith}
+use mathlib.Core.Bool.{Bool, true, false, not, _&&_, _||_, false≢true}
+use mathlib.Core.Path.{_≡_, refl, sym, _∙_, subst}
+use lib.Dec.{leb, ltb}
+use lib.ListN.{length}
+use borrow.Author.Tests.{ltb-false, leb-false, le-leb, lt-ltb, not-false}
+use Rattle.tables.specs.Types.{Numbers, Round, Idle, Exchange, State, Vote, Find, States, Votes, Step}
+use Rattle.model.specs.Tests.{if}
+use Rattle.model.specs.Limits.{limited}
+use Rattle.model.specs.Rack.{round-in, same-round}
+use Rattle.model.specs.Rules.{is-crash, phase-in}
+use Rattle.model.proofs.Branches.{if-true}
+use Rattle.model.proofs.Cases.{clash, or-false, Unmet}
+use Rattle.model.proofs.Counting.{any-false}
+use Rattle.tables.specs.Layout.{Tables, known-in, record-end, record-at}
+use Rattle.tables.specs.View.{only, replica-at, view}
+use Rattle.tables.specs.Checks.{lengths, misplaced, spoiled, spoiled-at, any-spoiled, tables-refusals, record-refusals}
+use Rattle.tables.specs.Bounds.{Bounds, bounds, Long, is-long}
+use Rattle.tables.specs.Calls.{lent-refusals}
+
+-- ---- a round, slot and phase that go together
+
+module _ (N : Numbers) (s p : ℕ) where
+  open Numbers N using (slots)
+
+  -- in a round its slot has a row
+  pub in-slot : (a : Round) → same-round a Idle ≡ false → misplaced N a s p ≡ false → s < slots
+  unfolding misplaced
+  in-slot Idle busy e = clash (sym busy)
+  in-slot Exchange busy e = leb-false _ _ e
+  in-slot State busy e = leb-false _ _ (or-false (leb slots s) _ e .0)
+  in-slot Vote busy e = leb-false _ _ (or-false (leb slots s) _ e .0)
+  in-slot Find busy e = leb-false _ _ e
+
+  -- idle or not, no more slots are closed than there are
+  pub closed-few : (a : Round) → misplaced N a s p ≡ false → s ≤ slots
+  unfolding misplaced
+  closed-few Idle e = ltb-false _ _ e
+  closed-few Exchange e = let h = in-slot Exchange refl e in omega arith
+  closed-few State e = let h = in-slot State refl e in omega arith
+  closed-few Vote e = let h = in-slot Vote refl e in omega arith
+  closed-few Find e = let h = in-slot Find refl e in omega arith
+
+  -- in the state and the vote round its phase is one of the run
+  pub in-state : misplaced N State s p ≡ false → phase-in N States p ≡ true
+  unfolding misplaced
+  in-state e = not-false _ (or-false (leb slots s) _ e .1)
+
+  pub in-vote : misplaced N Vote s p ≡ false → phase-in N Votes p ≡ true
+  unfolding misplaced
+  in-vote e = not-false _ (or-false (leb slots s) _ e .1)
+
+-- ---- memories that passed
+
+module _ (N : Numbers) where
+  open Numbers N using (n, room)
+
+  pub record Sound (t : Tables) : Type 0 where
+    pub within : Bounds N
+    pub known : known-in (t .words) ≤ room
+    pub unspoiled : any-spoiled N (t .words) ≡ false
+    pub long : Long N (lengths t)
+
+  -- of every step but a crash
+  pub sound : (t : Tables) → Unmet (tables-refusals N t) → Sound t
+  unfolding Unmet
+  sound t (spoiled, (short, _)) =
+      let (limits, rest) = or-false (not (limited N)) _ spoiled in
+      let (many, any) = or-false (ltb room (known-in (t .words))) _ rest in
+      record { within = bounds N (not-false _ limits); known = ltb-false _ _ many; unspoiled = any; long = is-long N (lengths t) (not-false _ short) }
+
+  pub lent-sound : (a : Step) (t : Tables) → is-crash (a .act) ≡ false → Unmet (lent-refusals N a t) → Sound t
+  unfolding if
+  lent-sound a t e u = sound t (subst (λ (b : Bool). Unmet (if b (record-refusals N t (a .who .0)) (tables-refusals N t))) e u)
+
+  -- ---- the replica that acts, as its record is there
+
+  module _ {t : Tables} (fine : Sound t) {c : ℕ} (there : c < n) where
+    pub record-there : record-end c ≤ length (t .words)
+    record-there = let l = fine .long .words in omega arith
+
+    pub own-unspoiled : spoiled N (record-at (t .words) c) ≡ false
+    unfolding any-spoiled
+    own-unspoiled = go (leb (record-end c) (length (t .words))) (le-leb _ _ record-there) (any-false n (spoiled-at N (t .words)) (fine .unspoiled) c there)
+      where
+        go : (b : Bool) → b ≡ true → (b && spoiled N (record-at (t .words) c)) ≡ false → spoiled N (record-at (t .words) c) ≡ false
+        go true q z = z
+        go false q z = absurd (false≢true q)
+
+    -- its round, slot and phase go together
+    pub stands : let k = record-at (t .words) c in misplaced N (round-in (k .round)) (k .slot) (k .phase) ≡ false
+    unfolding spoiled
+    stands = or-false (ltb 4 (record-at (t .words) c .round)) _ own-unspoiled .1
+
+  -- a replica of the run is what the memories say of it
+  pub own-view : (t : Tables) {c : ℕ} → c < n → view N t .at c ≡ replica-at N t c
+  unfolding only
+  own-view t {c} there = if-true _ _ (lt-ltb c n there)
