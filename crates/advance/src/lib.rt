@@ -1,40 +1,56 @@
 // What an advance comes to, round by round. Inner code: no calls of the library.
+use coin::coin_of;
 use model::Effect;
 use model::Numbers;
 use model::Outcome;
+use model::PhaseIndex;
 use model::Refusal;
 use model::Round;
+use model::SlotIndex;
 use model::Sort;
 use model::Word;
 use tallies::count_heard;
 use tallies::majority_tag;
 ghost use mathlib.Core.Path.{_≡_};
 ghost use mathlib.Core.Bool.{true, false};
-ghost use Prim.Native.Nat.{_<_, _+_, suc};
-ghost use lib.Dec.{ltb};
+ghost use mathlib.Core.List.{[], _∷_};
+ghost use Prim.Native.Nat.{_<_, _≤_, _+_, _*_, suc};
+ghost use lib.Dec.{leb, ltb};
+ghost use lib.ListN.{length};
 ghost use Rattle.model.specs.declared.Sort.the-variants.{States, Votes};
 ghost use Rattle.model.specs.declared.Word.the-variants.{Say, Unsure};
 ghost use Rattle.model.specs.declared.Outcome.the-variants.{Undecided, Decided};
 ghost use Rattle.model.specs.declared.Refusal.the-variants.{PhasesUsedUp};
 ghost use Rattle.model.specs.declared.Effect.the-variants.{Send};
-ghost use Rattle.model.specs.Rules.{require, majority, exchange-rule, state-rule, conclude, vote-rule, find-rule, advance-rule};
+ghost use Rattle.model.specs.Coins.{coin, strip-cell};
+ghost use Rattle.model.specs.TurnedAway.{_when_, _⊢_, settle};
+ghost use Rattle.model.specs.Rules.{quorum, majority, exchange-rule, state-rule, conclude, vote-rule, find-rule, advance-rule};
 ghost use Rattle.tables.specs.Bounds.{Bounds};
 ghost use Rattle.tables.specs.Checks.{misplaced};
 ghost use Rattle.messages.specs.Reach.{Reach};
-ghost use Rattle.tallies.specs.Seat.{Seat, SeatIn, ears};
+ghost use Rattle.tallies.specs.Heard.{InSlot, InPhase, heard-by};
 ghost use Rattle.advance.specs.Picked.{picked};
+
+// 14: "below quota"
+fn below_quorum(numbers: Numbers, heard: usize) -> bool
+    requires { ⌜ Bounds numbers ⌝ }
+    ensures { λ r. ⌜ r ≡ ltb heard (quorum numbers) ⌝ }
+{
+    heard < numbers.n - numbers.f
+}
 
 fn exchange_rule(
     numbers: Numbers,
     who: usize,
     slot: usize,
     phase: usize,
-    proposals: &[u64],
+    words: &[u16],
+    orders: &[u64],
     ballots: &[u8],
-    heard: &[u16],
 ) -> Effect
-    requires { ⌜ Seat numbers who slot (now proposals) (now ballots) (now heard) ⌝ }
-    ensures { λ r. ⌜ r ≡ exchange-rule numbers (ears numbers who slot phase (now (proposals .entry)) (now (ballots .entry)) (now (heard .entry))) ⌝ }
+    requires { ⌜ InSlot numbers who slot (now words) (now orders) (now ballots) ⌝ }
+    ensures { λ r. let k = heard-by numbers who slot phase (now (words .entry)) (now (orders .entry)) (now (ballots .entry)) in
+        ⌜ r ≡ settle (exchange-rule numbers k) ⌝ }
 {
     let count = count_heard(
         numbers,
@@ -42,14 +58,14 @@ fn exchange_rule(
         Sort::Proposals,
         slot,
         0,
-        proposals,
+        words,
+        orders,
         ballots,
-        heard,
     );
-    if count.all < numbers.n - numbers.f {
+    if below_quorum(numbers, count.all) {
         return Effect::Refuse(Refusal::TooFewHeard);
     }
-    let tag = majority_tag(numbers, who, slot, proposals, ballots, heard);
+    let tag = majority_tag(numbers, who, slot, words, orders, ballots);
     Effect::Send {
         sort: Sort::States,
         phase: 1,
@@ -75,12 +91,13 @@ fn state_rule(
     who: usize,
     slot: usize,
     phase: usize,
-    proposals: &[u64],
+    words: &[u16],
+    orders: &[u64],
     ballots: &[u8],
-    heard: &[u16],
 ) -> Effect
-    requires { ⌜ SeatIn numbers who States slot phase (now proposals) (now ballots) (now heard) ⌝ }
-    ensures { λ r. ⌜ r ≡ state-rule numbers (ears numbers who slot phase (now (proposals .entry)) (now (ballots .entry)) (now (heard .entry))) ⌝ }
+    requires { ⌜ InPhase numbers who States slot phase (now words) (now orders) (now ballots) ⌝ }
+    ensures { λ r. let k = heard-by numbers who slot phase (now (words .entry)) (now (orders .entry)) (now (ballots .entry)) in
+        ⌜ r ≡ settle (state-rule numbers k) ⌝ }
 {
     let count = count_heard(
         numbers,
@@ -88,11 +105,11 @@ fn state_rule(
         Sort::States,
         slot,
         phase,
-        proposals,
+        words,
+        orders,
         ballots,
-        heard,
     );
-    if count.all < numbers.n - numbers.f {
+    if below_quorum(numbers, count.all) {
         return Effect::Refuse(Refusal::TooFewHeard);
     }
     Effect::Send {
@@ -116,8 +133,17 @@ fn outcome_of(numbers: Numbers, zeros: usize, ones: usize) -> Outcome
     Outcome::Undecided
 }
 
-fn next_state(flip: bool, zeros: usize, ones: usize) -> bool
-    ensures { λ r. ⌜ r ≡ picked 1 zeros ones false true flip ⌝ }
+// The coin is looked up only where neither a 0 nor a 1 was heard.
+fn next_state(
+    numbers: Numbers,
+    slot: usize,
+    phase: usize,
+    zeros: usize,
+    ones: usize,
+    strip: &[u8],
+) -> bool
+    requires { ⌜ (1 ≤ phase) × (strip-cell (numbers .phases) slot phase < length (now strip)) ⌝ }
+    ensures { λ r. ⌜ r ≡ picked 1 zeros ones false true (coin (numbers .phases) (now (strip .entry)) slot phase) ⌝ }
 {
     if 1 <= zeros {
         return false;
@@ -125,33 +151,42 @@ fn next_state(flip: bool, zeros: usize, ones: usize) -> bool
     if 1 <= ones {
         return true;
     }
-    flip
+    coin_of(numbers.phases, strip, SlotIndex(slot), PhaseIndex(phase))
 }
 
-// Outcome 1.
+// Outcome 1. The coin has no part in it.
 fn close_or_seek(
     numbers: Numbers,
     who: usize,
     slot: usize,
     phase: usize,
-    proposals: &[u64],
+    words: &[u16],
+    orders: &[u64],
     ballots: &[u8],
-    heard: &[u16],
 ) -> Effect
-    requires { ⌜ Seat numbers who slot (now proposals) (now ballots) (now heard) ⌝ }
-    ensures { λ r. ⌜ r ≡ conclude numbers false (ears numbers who slot phase (now (proposals .entry)) (now (ballots .entry)) (now (heard .entry))) (Decided true) ⌝ }
+    requires { ⌜ InSlot numbers who slot (now words) (now orders) (now ballots) ⌝ }
+    ensures { λ r. let k = heard-by numbers who slot phase (now (words .entry)) (now (orders .entry)) (now (ballots .entry)) in
+        ⌜ r ≡ conclude numbers false k (Decided true) ⌝ }
 {
-    let tag = majority_tag(numbers, who, slot, proposals, ballots, heard);
+    let tag = majority_tag(numbers, who, slot, words, orders, ballots);
     if tag == 0 {
         return Effect::Seek;
     }
     Effect::Close(tag)
 }
 
-// No outcome.
-fn go_on(numbers: Numbers, phase: usize, flip: bool, zeros: usize, ones: usize) -> Effect
-    requires { ⌜ Bounds numbers ⌝ }
-    ensures { λ r. ⌜ r ≡ require (ltb phase (numbers .phases)) PhasesUsedUp (Send States (suc phase) (Say (picked 1 zeros ones false true flip))) ⌝ }
+// No outcome: 15, or the state for the next phase.
+fn go_on(
+    numbers: Numbers,
+    slot: usize,
+    phase: usize,
+    zeros: usize,
+    ones: usize,
+    strip: &[u8],
+) -> Effect
+    requires { ⌜ (Bounds numbers) × (1 ≤ phase) × (strip-cell (numbers .phases) slot phase < length (now strip)) ⌝ }
+    ensures { λ r. let state = picked 1 zeros ones false true (coin (numbers .phases) (now (strip .entry)) slot phase) in
+        ⌜ r ≡ settle (PhasesUsedUp when leb (numbers .phases) phase ∷ [] ⊢ Send States (suc phase) (Say state)) ⌝ }
 {
     if numbers.phases <= phase {
         return Effect::Refuse(Refusal::PhasesUsedUp);
@@ -159,7 +194,7 @@ fn go_on(numbers: Numbers, phase: usize, flip: bool, zeros: usize, ones: usize) 
     Effect::Send {
         sort: Sort::States,
         phase: phase + 1,
-        word: Word::Say(next_state(flip, zeros, ones)),
+        word: Word::Say(next_state(numbers, slot, phase, zeros, ones, strip)),
     }
 }
 
@@ -168,13 +203,15 @@ fn vote_rule(
     who: usize,
     slot: usize,
     phase: usize,
-    flip: bool,
-    proposals: &[u64],
+    words: &[u16],
+    orders: &[u64],
     ballots: &[u8],
-    heard: &[u16],
+    strip: &[u8],
 ) -> Effect
-    requires { ⌜ SeatIn numbers who Votes slot phase (now proposals) (now ballots) (now heard) ⌝ }
-    ensures { λ r. ⌜ r ≡ vote-rule numbers flip (ears numbers who slot phase (now (proposals .entry)) (now (ballots .entry)) (now (heard .entry))) ⌝ }
+    requires { ⌜ (InPhase numbers who Votes slot phase (now words) (now orders) (now ballots))
+        × (1 ≤ phase) × (strip-cell (numbers .phases) slot phase < length (now strip)) ⌝ }
+    ensures { λ r. let k = heard-by numbers who slot phase (now (words .entry)) (now (orders .entry)) (now (ballots .entry)) in
+        ⌜ r ≡ settle (vote-rule numbers (coin (numbers .phases) (now (strip .entry)) slot phase) k) ⌝ }
 {
     let count = count_heard(
         numbers,
@@ -182,22 +219,22 @@ fn vote_rule(
         Sort::Votes,
         slot,
         phase,
-        proposals,
+        words,
+        orders,
         ballots,
-        heard,
     );
-    if count.all < numbers.n - numbers.f {
+    if below_quorum(numbers, count.all) {
         return Effect::Refuse(Refusal::TooFewHeard);
     }
     let o = outcome_of(numbers, count.zeros, count.ones);
     match o {
         Outcome::Decided(v) => {
             if v {
-                return close_or_seek(numbers, who, slot, phase, proposals, ballots, heard);
+                return close_or_seek(numbers, who, slot, phase, words, orders, ballots);
             }
             Effect::Close(0)
         }
-        Outcome::Undecided => go_on(numbers, phase, flip, count.zeros, count.ones),
+        Outcome::Undecided => go_on(numbers, slot, phase, count.zeros, count.ones, strip),
     }
 }
 
@@ -206,14 +243,15 @@ fn find_rule(
     who: usize,
     slot: usize,
     phase: usize,
-    proposals: &[u64],
+    words: &[u16],
+    orders: &[u64],
     ballots: &[u8],
-    heard: &[u16],
 ) -> Effect
-    requires { ⌜ Seat numbers who slot (now proposals) (now ballots) (now heard) ⌝ }
-    ensures { λ r. ⌜ r ≡ find-rule numbers (ears numbers who slot phase (now (proposals .entry)) (now (ballots .entry)) (now (heard .entry))) ⌝ }
+    requires { ⌜ InSlot numbers who slot (now words) (now orders) (now ballots) ⌝ }
+    ensures { λ r. let k = heard-by numbers who slot phase (now (words .entry)) (now (orders .entry)) (now (ballots .entry)) in
+        ⌜ r ≡ settle (find-rule numbers k) ⌝ }
 {
-    let tag = majority_tag(numbers, who, slot, proposals, ballots, heard);
+    let tag = majority_tag(numbers, who, slot, words, orders, ballots);
     if tag == 0 {
         return Effect::Refuse(Refusal::TooFewHeard);
     }
@@ -226,19 +264,21 @@ pub fn advance_rule(
     round: Round,
     slot: usize,
     phase: usize,
-    flip: bool,
-    proposals: &[u64],
+    words: &[u16],
+    orders: &[u64],
     ballots: &[u8],
-    heard: &[u16],
+    strip: &[u8],
 ) -> Effect
-    requires { ⌜ (who < numbers .n) × (misplaced numbers round slot phase ≡ false) × (Reach numbers (now proposals) (now ballots) (now heard)) ⌝ }
-    ensures { λ r. ⌜ r ≡ advance-rule numbers flip (ears numbers who slot phase (now (proposals .entry)) (now (ballots .entry)) (now (heard .entry))) round ⌝ }
+    requires { ⌜ (who < numbers .n) × (misplaced numbers round slot phase ≡ false) × (Reach numbers (now words) (now orders) (now ballots))
+        × (numbers .slots * numbers .phases ≤ length (now strip)) ⌝ }
+    ensures { λ r. let k = heard-by numbers who slot phase (now (words .entry)) (now (orders .entry)) (now (ballots .entry)) in
+        ⌜ r ≡ settle (advance-rule numbers (coin (numbers .phases) (now (strip .entry)) slot phase) k round) ⌝ }
 {
     match round {
         Round::Idle => Effect::Refuse(Refusal::NotBegun),
-        Round::Exchange => exchange_rule(numbers, who, slot, phase, proposals, ballots, heard),
-        Round::State => state_rule(numbers, who, slot, phase, proposals, ballots, heard),
-        Round::Vote => vote_rule(numbers, who, slot, phase, flip, proposals, ballots, heard),
-        Round::Find => find_rule(numbers, who, slot, phase, proposals, ballots, heard),
+        Round::Exchange => exchange_rule(numbers, who, slot, phase, words, orders, ballots),
+        Round::State => state_rule(numbers, who, slot, phase, words, orders, ballots),
+        Round::Vote => vote_rule(numbers, who, slot, phase, words, orders, ballots, strip),
+        Round::Find => find_rule(numbers, who, slot, phase, words, orders, ballots),
     }
 }

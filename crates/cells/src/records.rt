@@ -1,38 +1,53 @@
-// A replica's record: four words at 4 * c. Which records are spoiled.
+// The head of the words: the count of known tags; and a replica's record. Which records are spoiled.
+use layout::record_past;
+use layout::record_place;
+use layout::slot_end;
 use model::Numbers;
 use model::Round;
+use tables::KNOWN_CELL;
 use tables::Record;
 ghost use mathlib.Core.Path.{_≡_};
 ghost use mathlib.Core.Bool.{_||_};
-ghost use Prim.Native.Nat.{_<_, _≤_, _+_, _*_};
+ghost use Prim.Native.Nat.{_<_, _≤_};
 ghost use lib.ListN.{length};
 ghost use Rattle.model.specs.declared.Round.the-variants.{State};
-ghost use Rattle.tables.specs.Layout.{record-at, record-stored};
-ghost use Rattle.tables.specs.View.{round-in};
+ghost use Rattle.model.specs.Limits.{most-replicas};
+ghost use Rattle.tables.specs.Layout.{mask-bits, known-in, record-end, record-at, record-stored};
+ghost use Rattle.model.specs.Rack.{round-in};
 ghost use Rattle.tables.specs.Checks.{misplaced, spoiled, spoiled-at, any-spoiled};
 
-pub fn load(records: &[u16], c: usize) -> Record
-    requires { ⌜ (c < 16) × (4 * c + 4 ≤ length (now records)) ⌝ }
-    ensures { λ r. ⌜ r ≡ record-at (now (records .entry)) c ⌝ }
+// How many tags are known: none where not even that is there.
+pub fn known_in(words: &[u16]) -> u16
+    ensures { λ r. ⌜ r ≡ known-in (now (words .entry)) ⌝ }
 {
-    let at = 4 * c;
+    if words.len() <= KNOWN_CELL {
+        return 0;
+    }
+    words[KNOWN_CELL]
+}
+
+pub fn load(words: &[u16], c: usize) -> Record
+    requires { ⌜ (c < mask-bits) × (record-end c ≤ length (now words)) ⌝ }
+    ensures { λ r. ⌜ r ≡ record-at (now (words .entry)) c ⌝ }
+{
+    let at = record_place(c);
     Record {
-        crashed: records[at],
-        round: records[at + 1],
-        slot: records[at + 2],
-        phase: records[at + 3],
+        crashed: words[at],
+        round: words[at + 1],
+        slot: words[at + 2],
+        phase: words[at + 3],
     }
 }
 
-pub fn store(records: &mut [u16], c: usize, k: Record)
-    requires { ⌜ (c < 16) × (4 * c + 4 ≤ length (now records)) ⌝ }
-    ensures { λ _. ⌜ now (records .exit) ≡ record-stored (now (records .entry)) c k ⌝ }
+pub fn store(words: &mut [u16], c: usize, k: Record)
+    requires { ⌜ (c < mask-bits) × (record-end c ≤ length (now words)) ⌝ }
+    ensures { λ _. ⌜ now (words .exit) ≡ record-stored (now (words .entry)) c k ⌝ }
 {
-    let at = 4 * c;
-    records[at] = k.crashed;
-    records[at + 1] = k.round;
-    records[at + 2] = k.slot;
-    records[at + 3] = k.phase;
+    let at = record_place(c);
+    words[at] = k.crashed;
+    words[at + 1] = k.round;
+    words[at + 2] = k.slot;
+    words[at + 3] = k.phase;
 }
 
 pub fn round_in(x: u16) -> Round
@@ -57,7 +72,7 @@ pub fn round_in(x: u16) -> Round
 fn misplaced_phase(numbers: Numbers, slot: usize, phase: usize) -> bool
     ensures { λ r. ⌜ r ≡ misplaced numbers State slot phase ⌝ }
 {
-    if numbers.slots <= slot {
+    if slot_end(numbers) <= slot {
         return true;
     }
     if phase < 1 {
@@ -78,25 +93,25 @@ pub fn record_spoiled(numbers: Numbers, k: Record) -> bool
         return true;
     }
     if k.round == 0 {
-        return numbers.slots < slot;
+        return slot_end(numbers) < slot;
     }
     if k.round == 1 {
-        return numbers.slots <= slot;
+        return slot_end(numbers) <= slot;
     }
     if k.round == 4 {
-        return numbers.slots <= slot;
+        return slot_end(numbers) <= slot;
     }
     misplaced_phase(numbers, slot, phase)
 }
 
-fn spoiled_record(numbers: Numbers, records: &[u16], c: usize) -> bool
-    requires { ⌜ c < 16 ⌝ }
-    ensures { λ r. ⌜ r ≡ spoiled-at numbers (now (records .entry)) c ⌝ }
+fn spoiled_record(numbers: Numbers, words: &[u16], c: usize) -> bool
+    requires { ⌜ c < mask-bits ⌝ }
+    ensures { λ r. ⌜ r ≡ spoiled-at numbers (now (words .entry)) c ⌝ }
 {
-    if records.len() < 4 * c + 4 {
+    if words.len() < record_past(c) {
         return false;
     }
-    let k = load(records, c);
+    let k = load(words, c);
     record_spoiled(numbers, k)
 }
 
@@ -110,14 +125,14 @@ pub fn or(a: bool, b: bool) -> bool
 }
 
 // Whether one of the n records that are there is spoiled.
-pub fn any_spoiled(numbers: Numbers, records: &[u16]) -> bool
-    requires { ⌜ numbers .n ≤ 15 ⌝ }
-    ensures { λ r. ⌜ r ≡ any-spoiled numbers (now (records .entry)) ⌝ }
+pub fn any_spoiled(numbers: Numbers, words: &[u16]) -> bool
+    requires { ⌜ numbers .n ≤ most-replicas ⌝ }
+    ensures { λ r. ⌜ r ≡ any-spoiled numbers (now (words .entry)) ⌝ }
 {
     let n = numbers.n;
     let mut i = 0;
     while i < n {
-        if spoiled_record(numbers, records, i) {
+        if spoiled_record(numbers, words, i) {
             return true;
         }
         i += 1;

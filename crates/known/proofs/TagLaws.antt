@@ -1,27 +1,29 @@
 -- Where a tag stands among the known ones, turn by turn; what its place tells, and what holding it stores.
-use mathlib.Core.Path.{_≡_, refl, sym, _∙_, ap, ap₂}
-use mathlib.Core.Bool.{Bool, true, false, _&&_, _||_}
+use mathlib.Core.Path.{_≡_, refl, sym, _∙_, ap, ap₂, subst}
+use mathlib.Core.Bool.{Bool, true, false, not, _&&_, _||_}
 use mathlib.Core.List.{List, [], _∷_}
+use mathlib.Core.Logic.{⊎-elim}
 use Prim.Native.Nat.{ℕ, zero, suc, _+_, _^_, _<_, _≤_}
 use native.Mathlib.Omega.{arith}
 use native.Mathlib.Numerals.{add-one}
-use native.Mathlib.Nat.{add-zero, le-trans}
-use lib.Dec.{ltb, eqb, leb·suc-suc}
+use native.Mathlib.Nat.{add-zero}
+use lib.Dec.{leb, ltb, eqb, leb·suc-suc}
 use lib.ListN.{length, getD, set, take, drop}
 use lib.Seq.{drop-cons, getD-take, length-take-le, drop-length}
-use borrow.Author.Tests.{eq-eqb, ne-eqb, eqb-false, ltb-true, lt-ltb, le-ltb}
+use borrow.Author.Tests.{eq-eqb, ne-eqb, eqb-false, lt-ltb, le-ltb}
 use Rattle.model.specs.declared.Numbers.{Numbers}
-use Rattle.model.specs.Tests.{if, any, some, listed}
+use Rattle.model.specs.Tests.{if, some, listed}
 use Rattle.model.proofs.Branches.{told, if-true, if-false}
-use Rattle.model.proofs.Cases.{if-ind}
-use Rattle.tables.specs.Layout.{has-bit, with-bit}
-use Rattle.tables.specs.View.{holds}
-use Rattle.tables.specs.Write.{place-in, known-held, tags-held, holders-held}
-use Rattle.cells.proofs.RecordLaws.{any-more, any-here}
+use Rattle.model.proofs.Cases.{clash, if-ind}
+use Rattle.tables.specs.Layout.{has-bit, with-bit, known-cell, known-in, holders-base}
+use Rattle.tables.specs.View.{held-from}
+use Rattle.tables.specs.Write.{place-in, orders-held, words-held}
+use Rattle.model.proofs.Counting.{any-more, any-here, any-nowhere}
 use Rattle.known.specs.Room.{Room, Storable, Sought}
 
-pub in-tags : {N : Numbers} {k : ℕ} {ts hs : List ℕ} → Room N k ts hs → k ≤ length ts
-in-tags r = le-trans (r .known) (r .tags)
+-- the known tags stand in their memory
+pub in-tags : {N : Numbers} {ws os : List ℕ} → Room N ws os → known-in ws ≤ length os
+in-tags r = let a = r .known in let b = r .orders in omega arith
 
 -- a tag is listed if its place is inside the list
 listed-place : (x : ℕ) (l : List ℕ) → listed x l ≡ ltb (place-in x l) (length l)
@@ -51,89 +53,123 @@ not-before x [] j h = absurd (omega arith)
 not-before x (y ∷ ys) zero h = ne-eqb y x (λ e. eqb-false x y (past _ h .0) (sym e))
 not-before x (y ∷ ys) (suc j) h = let l = past _ h .1 in not-before x ys j (omega arith)
 
--- ---- one of the first numbers passes
-
-any-nowhere : (k : ℕ) (P : ℕ → Bool) → ((j : ℕ) → j < k → P j ≡ false) → any k P ≡ false
-unfolding any
-any-nowhere zero P h = refl
-any-nowhere (suc k) P h = rw (h k (omega arith)) (any-nowhere k P (λ j l. h j (omega arith)))
-
 module _ (ts : List ℕ) (k : ℕ) where
   -- the known tags from place i on
   abbrev pub rest : ℕ → List ℕ
   rest i = drop i (take k ts)
 
-  -- the count, the tags and the holders are those after replica c holds the tag
-  abbrev pub Held : ℕ → ℕ → List ℕ → ℕ → List ℕ → List ℕ → Type 0
-  Held c x hs k′ ts′ hs′ = (k′ ≡ known-held x k ts) × (ts′ ≡ tags-held x k ts) × (hs′ ≡ holders-held c x k ts hs)
-
   module _ (l : k ≤ length ts) where
+    -- past the last there are none
     pub rest-none : rest k ≡ []
     rest-none = ap rest (sym (length-take-le k ts l)) ∙ drop-length (take k ts)
 
+    -- the first of them, and those after it
     pub rest-more : (i : ℕ) → i < k → rest i ≡ getD ts i 0 ∷ rest (suc i)
     rest-more i h = drop-cons (take k ts) i 0 (rw (length-take-le k ts l) h) ∙ ap (λ (y : ℕ). y ∷ rest (suc i)) (getD-take k ts i 0 h)
 
     module _ (x : ℕ) where
       -- ---- the search for its place
 
+      -- it stands at this place
       pub place-here : (i : ℕ) → i < k → x ≡ getD ts i 0 → Sought ts k x i → i ≡ place-in x (take k ts)
       unfolding place-in if
       place-here i h e q = sym (q ∙ ap (λ (r : List ℕ). i + place-in x r) (rest-more i h) ∙ rw (eq-eqb x (getD ts i 0) e) (add-zero i))
 
+      -- it does not: one place further
       pub place-more : (i : ℕ) → i < k → (x ≡ getD ts i 0 → ⊥) → Sought ts k x i → Sought ts k x (i + 1)
       unfolding place-in if
       place-more i h e q = q ∙ ap (λ (r : List ℕ). i + place-in x r) (rest-more i h) ∙ rw (ne-eqb x (getD ts i 0) e, add-one i) (omega arith)
 
+      -- it stands nowhere
       pub place-none : (i : ℕ) → i ≡ k → Sought ts k x i → i ≡ place-in x (take k ts)
       unfolding place-in
       place-none i e q = sym (q ∙ ap (λ (r : List ℕ). i + place-in x r) (ap rest e ∙ rest-none) ∙ add-zero i)
 
       -- ---- what its place tells
 
+      -- whether it is listed
       pub known-place : {i : ℕ} → i ≡ place-in x (take k ts) → ltb i k ≡ listed x (take k ts)
       known-place e = ap₂ ltb e (sym (length-take-le k ts l)) ∙ sym (listed-place x (take k ts))
 
-      -- refusal 8 asks for a known tag or for room
-      pub room-for : (room : ℕ) {i : ℕ} → i ≡ place-in x (take k ts) → (listed x (take k ts) || ltb (length (take k ts)) room) ≡ (ltb i k || ltb k room)
-      room-for room e = ap₂ (λ (a : Bool) (j : ℕ). a || ltb j room) (sym (known-place e)) (length-take-le k ts l)
+      -- refusal 8 asks whether the tag is new and no room is left
+      pub room-for : (room : ℕ) {i : ℕ} → i ≡ place-in x (take k ts)
+          → (not (listed x (take k ts)) && leb room (length (take k ts))) ≡ (not (ltb i k) && leb room k)
+      room-for room e = ap₂ (λ (a : Bool) (j : ℕ). not a && leb room j) (sym (known-place e)) (length-take-le k ts l)
 
       -- ---- who holds it
 
-      module _ (hs : List ℕ) (c i : ℕ) where
-        pub held-before : i ≡ place-in x (take k ts) → (i ≤ k) × (holds i ts hs c x ≡ false)
-        unfolding holds
+      module _ (base : ℕ) (ws : List ℕ) (c i : ℕ) where
+        -- it is not held before its first place
+        pub held-before : i ≡ place-in x (take k ts) → (i ≤ k) × (held-from base i ts ws c x ≡ false)
+        unfolding held-from
         held-before e =
             let inside = rw (length-take-le k ts l) at (place-within x (take k ts)) in
             (omega arith, any-nowhere i _ (λ j h. rw (sym (getD-take k ts j 0 (omega arith)), not-before x (take k ts) j (omega arith))))
 
-        pub held-later : {r : Bool} → r ≡ (eqb (getD ts i 0) x && has-bit (getD hs i 0) c) → r ≡ false → holds i ts hs c x ≡ false → holds (i + 1) ts hs c x ≡ false
-        unfolding holds
+        -- a turn of the loop: not at this place either
+        pub held-later : {r : Bool} → r ≡ (eqb (getD ts i 0) x && has-bit (getD ws (base + i) 0) c) → r ≡ false
+            → held-from base i ts ws c x ≡ false → held-from base (i + 1) ts ws c x ≡ false
+        unfolding held-from
         held-later e q h = any-more i _ ∙ ap₂ _||_ (told e q) h
 
-        pub held-here : {r : Bool} → i < k → r ≡ (eqb (getD ts i 0) x && has-bit (getD hs i 0) c) → r ≡ true → true ≡ holds k ts hs c x
-        unfolding holds
+        -- it is held at this place
+        pub held-here : {r : Bool} → i < k → r ≡ (eqb (getD ts i 0) x && has-bit (getD ws (base + i) 0) c) → r ≡ true
+            → true ≡ held-from base k ts ws c x
+        unfolding held-from
         held-here h e q = sym (any-here k _ i h (told e q))
 
       -- ---- what holding it stores
 
       module _ {i : ℕ} (place : i ≡ place-in x (take k ts)) where
+        -- a place below the count: listed
         is-known : i < k → listed x (take k ts) ≡ true
         is-known h = sym (known-place place) ∙ lt-ltb i k h
 
+        -- else not listed
         is-new : k ≤ i → listed x (take k ts) ≡ false
         is-new h = sym (known-place place) ∙ le-ltb i k h
 
+        -- and then there is room for it
         pub room-left : (N : Numbers) → k ≤ i → Storable N x k ts → k < N .room
-        room-left N h s = ltb-true _ _ (ap (λ (b : Bool). b || ltb k (N .room)) (sym (is-new h)) ∙ s)
+        room-left N h s = ⊎-elim (λ e. clash (sym (is-new h) ∙ e)) (λ l. l) s
 
-        module _ (c : ℕ) (hs : List ℕ) {m : ℕ} where
-          pub held-known : i < k → m ≡ with-bit (getD hs i 0) c → Held c x hs k ts (set hs i m)
-          held-known h e =
-              let stored = ap (set hs i) e ∙ ap (λ (j : ℕ). set hs j (with-bit (getD hs j 0) c)) place in
-              (sym (if-true _ _ (is-known h)), sym (if-true _ _ (is-known h)), stored ∙ sym (if-true _ _ (is-known h)))
+-- ---- what holding a tag stores, by the base, the count and the place as the code has found them
+module _ (N : Numbers) (ws os : List ℕ) (room : Room N ws os) {base k : ℕ} (from : base ≡ holders-base N) (count : k ≡ known-in ws) (x : ℕ) {i : ℕ}
+    (place : i ≡ place-in x (take k os)) where
+  few : k ≤ length os
+  few = let l = in-tags room in omega arith
 
-          pub held-new : k ≤ i → m ≡ 2 ^ c → Held c x hs (k + 1) (set ts k x) (set hs k m)
-          held-new h e =
-              let stored = ap (set hs k) e in
-              (add-one k ∙ sym (if-false _ _ (is-new h)), sym (if-false _ _ (is-new h)), stored ∙ sym (if-false _ _ (is-new h)))
+  -- the places of a new tag are there
+  pub new-there : k ≤ i → Storable N x (known-in ws) os → (k < length os) × (base + k < length ws)
+  new-there h s =
+      let l = room-left os k few x place N h (subst (λ (j : ℕ). Storable N x j os) (sym count) s) in
+      let a = room .orders in
+      let b = room .words in
+      (omega arith, omega arith)
+
+  module _ (c : ℕ) where
+    -- replica c holds the tag
+    abbrev Held : List ℕ → List ℕ → Type 0
+    Held ws′ os′ = (ws′ ≡ words-held N c x os ws) × (os′ ≡ orders-held x (known-in ws) os)
+
+    abbrev words-with : ℕ → ℕ → List ℕ
+    words-with b k = let i = b + place-in x (take k os) in
+        if (listed x (take k os)) (set ws i (with-bit (getD ws i 0) c)) (set (set ws (b + k) (2 ^ c)) known-cell (suc k))
+
+    -- what is stored by the base and the count is what the definition stores
+    by-reading : {ws′ os′ : List ℕ} → (ws′ ≡ words-with base k) × (os′ ≡ orders-held x k os) → Held ws′ os′
+    by-reading q = (q .0 ∙ ap₂ words-with from count, q .1 ∙ ap (λ (k : ℕ). orders-held x k os) count)
+
+    -- a known tag: its mask gets the bit
+    pub held-known : {m : ℕ} → i < k → m ≡ with-bit (getD ws (base + i) 0) c → Held (set ws (base + i) m) os
+    held-known h e =
+        let stored = ap (set ws (base + i)) e ∙ ap (λ (j : ℕ). set ws (base + j) (with-bit (getD ws (base + j) 0) c)) place in
+        let known = is-known os k few x place h in
+        by-reading (stored ∙ sym (if-true _ _ known), sym (if-true _ _ known))
+
+    -- a new one: the tag, its mask and the count
+    pub held-new : {m : ℕ} → k ≤ i → m ≡ 2 ^ c → Held (set (set ws (base + k) m) known-cell (k + 1)) (set os k x)
+    held-new h e =
+        let stored = ap₂ (λ (m n : ℕ). set (set ws (base + k) m) known-cell n) e (add-one k) in
+        let new = is-new os k few x place h in
+        by-reading (stored ∙ sym (if-false _ _ new), sym (if-false _ _ new))

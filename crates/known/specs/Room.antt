@@ -1,47 +1,46 @@
--- What the functions on orders ask, and the replica as their rules read it.
+-- What the functions on tags ask, and the replica as the rules of submit, relay and begin read it.
 use Prim.Native.Nat.{ℕ, _+_, _≤_, _<_}
-use mathlib.Core.Bool.{true, false, _||_}
+use mathlib.Core.Bool.{true, false}
 use mathlib.Core.List.{List}
+use mathlib.Core.Logic.{_⊎_}
 use mathlib.Core.Path.{_≡_}
-use lib.Dec.{ltb}
 use lib.ListN.{length, take, drop}
 use Rattle.model.specs.declared.Numbers.{Numbers}
 use Rattle.model.specs.declared.Round.{Round}
 use Rattle.model.specs.Tests.{listed}
 use Rattle.model.specs.Rack.{Replica, silence}
-use Rattle.tables.specs.Layout.{logs-need}
+use Rattle.tables.specs.Layout.{known-in, words-need, orders-need}
 use Rattle.tables.specs.Bounds.{Bounds}
 use Rattle.tables.specs.View.{holds, log-in}
 use Rattle.tables.specs.Write.{place-in}
 
--- the known tags stand in tables as long as the room
-pub record Room (N : Numbers) (k : ℕ) (ts hs : List ℕ) : Type 0 where
+-- the known tags and their holders stand in memories as long as the run needs
+pub record Room (N : Numbers) (ws os : List ℕ) : Type 0 where
   pub bounds : Bounds N
-  pub known : k ≤ N .room
-  pub tags : N .room ≤ length ts
-  pub holders : N .room ≤ length hs
+  pub known : known-in ws ≤ N .room
+  pub words : words-need N ≤ length ws
+  pub orders : orders-need N ≤ length os
 
--- and the logs are as long as the run needs
-pub record Desk (N : Numbers) (c k : ℕ) (ts hs ls : List ℕ) : Type 0 where
+-- a replica of the run acts in them
+pub record Acting (N : Numbers) (c : ℕ) (ws os : List ℕ) : Type 0 where
   pub who : c < N .n
-  pub room : Room N k ts hs
-  pub logs : logs-need N ≤ length ls
+  pub room : Room N ws os
 
 -- a replica, as far as submit, relay and begin read it
-abbrev pub holder : Numbers → ℕ → Round → ℕ → ℕ → List ℕ → List ℕ → List ℕ → Replica
-holder N c a s k ts hs ls = record {
+abbrev pub as-holder : Numbers → ℕ → Round → ℕ → List ℕ → List ℕ → Replica
+as-holder N c a s ws os = record {
   crashed = false;
   round = a;
   closed = s;
   phase = 0;
-  entry = log-in N ls c;
-  held = holds k ts hs c;
+  entry = log-in N os c;
+  held = holds N (known-in ws) os ws c;
   inbox = silence;
 }
 
--- a tag that is known, or for which there is room
+-- a tag is listed among the k known ones, or there is room left for one more
 abbrev pub Storable : Numbers → ℕ → ℕ → List ℕ → Type 0
-Storable N x k ts = (listed x (take k ts) || ltb k (N .room)) ≡ true
+Storable N x k ts = (listed x (take k ts) ≡ true) ⊎ (k < N .room)
 
 -- a tag does not stand before place i of the known ones
 abbrev pub Sought : List ℕ → ℕ → ℕ → ℕ → Type 0

@@ -1,16 +1,19 @@
-// The known tags and their holders.
+// The known tags and their holders. Inner functions for the crates above; no call of the library is here.
 use cells::masks::has_bit;
 use cells::masks::own_bit;
 use cells::masks::with_bit;
+use cells::records::known_in;
+use layout::holders_base;
 use model::Numbers;
+use tables::KNOWN_CELL;
 ghost use mathlib.Core.Path.{_≡_};
 ghost use mathlib.Core.Bool.{_&&_};
-ghost use Prim.Native.Nat.{_<_, _≤_};
+ghost use Prim.Native.Nat.{_+_, _<_, _≤_};
 ghost use lib.Dec.{eqb};
 ghost use lib.ListN.{length, take};
-ghost use Rattle.tables.specs.Layout.{has-bit};
-ghost use Rattle.tables.specs.View.{holds};
-ghost use Rattle.tables.specs.Write.{place-in, known-held, tags-held, holders-held};
+ghost use Rattle.tables.specs.Layout.{mask-bits, has-bit, known-in, holder-cell};
+ghost use Rattle.tables.specs.View.{held-from};
+ghost use Rattle.tables.specs.Write.{place-in, orders-held, words-held};
 ghost use Rattle.known.specs.Room.{Room, Storable, Sought};
 
 // "Tag 0 is no order".
@@ -65,7 +68,7 @@ pub fn tag_place(x: u64, known: usize, tags: &[u64]) -> usize
 
 // Whether a place that has this tag and these holders has x, held by `who`.
 fn holds_here(who: usize, x: u64, tag: u64, mask: u16) -> bool
-    requires { ⌜ who < 16 ⌝ }
+    requires { ⌜ who < mask-bits ⌝ }
     ensures { λ r. ⌜ r ≡ (eqb tag x && has-bit mask who) ⌝ }
 {
     if tag != x {
@@ -75,20 +78,23 @@ fn holds_here(who: usize, x: u64, tag: u64, mask: u16) -> bool
 }
 
 // Whether `who` holds the tag at its first place or a later one that has it: a damaged table may have a tag twice.
+// The holders' masks stand from a base on.
 pub fn held_from(
     who: usize,
     x: u64,
     first: usize,
     known: usize,
-    tags: &[u64],
-    holders: &[u16],
+    base: usize,
+    words: &[u16],
+    orders: &[u64],
 ) -> bool
-    requires { ⌜ (who < 16) × (known ≤ length (now tags)) × (known ≤ length (now holders)) × (first ≡ place-in x (take known (now tags))) ⌝ }
-    ensures { λ r. ⌜ r ≡ holds known (now (tags .entry)) (now (holders .entry)) who x ⌝ }
+    requires { ⌜ (who < mask-bits) × (base + known ≤ length (now words)) × (known ≤ length (now orders))
+        × (first ≡ place-in x (take known (now orders))) ⌝ }
+    ensures { λ r. ⌜ r ≡ held-from base known (now (orders .entry)) (now (words .entry)) who x ⌝ }
 {
     let mut i = first;
     while i < known {
-        if holds_here(who, x, tags[i], holders[i]) {
+        if holds_here(who, x, orders[i], words[base + i]) {
             return true;
         }
         i += 1;
@@ -97,26 +103,20 @@ pub fn held_from(
 }
 
 // `who` holds the tag from now on.
-pub fn hold_tag(
-    numbers: Numbers,
-    who: usize,
-    x: u64,
-    known: &mut u16,
-    tags: &mut [u64],
-    holders: &mut [u16],
-)
-    requires { ⌜ (who < 16) × (Room numbers (now known) (now tags) (now holders)) × (Storable numbers x (now known) (now tags)) ⌝ }
-    ensures { λ _. ⌜ (now (known .exit) ≡ known-held x (now (known .entry)) (now (tags .entry)))
-        × (now (tags .exit) ≡ tags-held x (now (known .entry)) (now (tags .entry)))
-        × (now (holders .exit) ≡ holders-held who x (now (known .entry)) (now (tags .entry)) (now (holders .entry))) ⌝ }
+pub fn hold_tag(numbers: Numbers, who: usize, x: u64, words: &mut [u16], orders: &mut [u64])
+    requires { ⌜ (who < mask-bits) × (Room numbers (now words) (now orders)) × (Storable numbers x (known-in (now words)) (now orders)) ⌝ }
+    ensures { λ _. ⌜ (now (words .exit) ≡ words-held numbers who x (now (orders .entry)) (now (words .entry)))
+        × (now (orders .exit) ≡ orders-held x (known-in (now (words .entry))) (now (orders .entry))) ⌝ }
 {
-    let count = *known as usize;
-    let at = tag_place(x, count, tags);
-    if at < count {
-        holders[at] = with_bit(holders[at], who);
+    let count = known_in(words);
+    let known = count as usize;
+    let base = holders_base(numbers);
+    let at = tag_place(x, known, orders);
+    if at < known {
+        words[base + at] = with_bit(words[base + at], who);
     } else {
-        tags[count] = x;
-        holders[count] = own_bit(who);
-        *known = *known + 1;
+        orders[known] = x;
+        words[base + known] = own_bit(who);
+        words[KNOWN_CELL] = count + 1;
     }
 }

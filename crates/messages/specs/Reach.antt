@@ -1,4 +1,4 @@
--- What the functions on messages ask: a message of the run, and tables as long as the run needs.
+-- What the functions on messages ask: memories as long as the run needs, and a word that has a cell.
 use Prim.Native.Nat.{ℕ, _≤_}
 use mathlib.Core.Bool.{false}
 use mathlib.Core.List.{List}
@@ -9,20 +9,15 @@ use Rattle.model.specs.declared.Sort.{Sort}
 use Rattle.model.specs.declared.Sort.the-variants.{Proposals, States, Votes}
 use Rattle.model.specs.declared.Word.{Word}
 use Rattle.model.specs.Rack.{Messages, Replica}
-use Rattle.tables.specs.Layout.{proposals-need, ballots-need, heard-need}
+use Rattle.tables.specs.Layout.{words-need, orders-need, ballots-need}
 use Rattle.tables.specs.Bounds.{Bounds}
-use Rattle.tables.specs.Addresses.{Within}
 use Rattle.tables.specs.Write.{word-number}
 
-pub record Message (N : Numbers) (so : Sort) (s p d : ℕ) : Type 0 where
+pub record Reach (N : Numbers) (ws os bs : List ℕ) : Type 0 where
   pub bounds : Bounds N
-  pub within : Within N so s p d
-
-pub record Reach (N : Numbers) (ps bs hs : List ℕ) : Type 0 where
-  pub bounds : Bounds N
-  pub proposals : proposals-need N ≤ length ps
+  pub words : words-need N ≤ length ws
+  pub orders : orders-need N ≤ length os
   pub ballots : ballots-need N ≤ length bs
-  pub heard : heard-need N ≤ length hs
 
 -- a word that fits the cell of its sort
 abbrev pub Fitting : Sort → Word → Type 0
@@ -30,6 +25,6 @@ Fitting Proposals w = Unit {0}
 Fitting States w = word-number w ≤ 3
 Fitting Votes w = word-number w ≤ 3
 
--- a replica, as far as the rules of an advance and a hear read it
-abbrev pub listener : ℕ → ℕ → Messages → Replica
-listener s p inbox = record { crashed = false; round = Idle; closed = s; phase = p; entry = λ t. 0; held = λ x. false; inbox = inbox }
+-- a replica as far as the rules of an advance and a hear read it: its slot and phase, and what it has heard
+abbrev pub reading : ℕ → ℕ → Messages → Replica
+reading s p inbox = record { crashed = false; round = Idle; closed = s; phase = p; entry = λ t. 0; held = λ x. false; inbox = inbox }

@@ -1,21 +1,23 @@
 // Hear: refusals 16, 17, 18.
-use crate::words::heard_word;
+use crate::words::counts_for;
 use crate::words::sent_word;
 use model::Effect;
+use model::Message;
 use model::Numbers;
 use model::Refusal;
 use model::Sort;
-use rules::messages::receive;
+use values::words::is_sent;
 ghost use mathlib.Core.Path.{_≡_};
-ghost use mathlib.Core.Bool.{_&&_};
+ghost use mathlib.Core.Bool.{not, _||_};
 ghost use mathlib.Core.Option.{some};
 ghost use Prim.Native.Nat.{_<_};
-ghost use lib.Dec.{ltb};
+ghost use lib.Dec.{leb};
 ghost use Rattle.model.specs.Tests.{between};
 ghost use Rattle.model.specs.Rack.{sort-of};
+ghost use Rattle.model.specs.TurnedAway.{settle};
 ghost use Rattle.model.specs.Rules.{phase-in, hear-rule};
 ghost use Rattle.tables.specs.View.{guarded, sent-words, inbox-in};
-ghost use Rattle.messages.specs.Reach.{Reach, listener};
+ghost use Rattle.messages.specs.Reach.{Reach, reading};
 
 fn ballot_phase(numbers: Numbers, phase: usize) -> bool
     ensures { λ r. ⌜ r ≡ between 1 (numbers .phases) phase ⌝ }
@@ -36,113 +38,82 @@ fn phase_in(numbers: Numbers, sort: Sort, phase: usize) -> bool
     }
 }
 
-fn message_in(numbers: Numbers, sort: Sort, slot: usize, phase: usize) -> bool
-    ensures { λ r. ⌜ r ≡ (ltb slot (numbers .slots) && phase-in numbers sort phase) ⌝ }
+// 16: "sort, slot or phase out of range". The limit is the rule's: which slots have a row is another question.
+fn out_of_range(numbers: Numbers, sort: Sort, slot: usize, phase: usize) -> bool
+    ensures { λ r. ⌜ r ≡ (leb (numbers .slots) slot || not (phase-in numbers sort phase)) ⌝ }
 {
     if numbers.slots <= slot {
-        return false;
+        return true;
     }
-    phase_in(numbers, sort, phase)
+    !phase_in(numbers, sort, phase)
 }
 
 fn hear_message(
     numbers: Numbers,
     who: usize,
-    sender: usize,
     sort: Sort,
-    slot: usize,
-    phase: usize,
-    proposals: &[u64],
+    message: Message,
+    words: &[u16],
+    orders: &[u64],
     ballots: &[u8],
-    heard: &[u16],
 ) -> Effect
-    requires { ⌜ (who < numbers .n) × (sender < numbers .n) × (Reach numbers (now proposals) (now ballots) (now heard)) ⌝ }
-    ensures { λ r. ⌜ r ≡ hear-rule numbers (guarded numbers (sent-words numbers (now (proposals .entry)) (now (ballots .entry))))
-        (listener 0 0 (guarded numbers (inbox-in numbers (now (proposals .entry)) (now (ballots .entry)) (now (heard .entry)) who)))
-        sender slot phase (some sort) ⌝ }
+    requires { ⌜ (who < numbers .n) × (message .sender .0 < numbers .n) × (Reach numbers (now words) (now orders) (now ballots)) ⌝ }
+    ensures { λ r. ⌜ r ≡ settle (hear-rule numbers (guarded numbers (sent-words numbers (now (orders .entry)) (now (ballots .entry))))
+        (reading 0 0 (guarded numbers (inbox-in numbers (now (orders .entry)) (now (ballots .entry)) (now (words .entry)) who)))
+        message (some sort)) ⌝ }
 {
-    if !message_in(numbers, sort, slot, phase) {
+    let slot = message.slot.0;
+    let phase = message.phase.0;
+    let sender = message.sender.0;
+    if out_of_range(numbers, sort, slot, phase) {
         return Effect::Refuse(Refusal::NoSuchMessage);
     }
-    let sent = sent_word(
-        numbers,
+    let word = sent_word(numbers, sort, slot, phase, sender, words, orders, ballots);
+    if !is_sent(word) {
+        return Effect::Refuse(Refusal::NotSent);
+    }
+    if counts_for(numbers, who, sort, slot, phase, sender, words) {
+        return Effect::Refuse(Refusal::AlreadyHeard);
+    }
+    Effect::Receive {
         sort,
         slot,
         phase,
         sender,
-        proposals,
-        ballots,
-        heard,
-    );
-    let known = heard_word(
-        numbers,
-        who,
-        sort,
-        slot,
-        phase,
-        sender,
-        proposals,
-        ballots,
-        heard,
-    );
-    receive(sort, slot, phase, sender, sent, known)
+        word,
+    }
 }
 
 // By the number of the sort: 1 a proposal, 2 a state, 3 a vote.
 pub fn hear_rule(
     numbers: Numbers,
     who: usize,
-    sender: usize,
-    sort: usize,
-    slot: usize,
-    phase: usize,
-    proposals: &[u64],
+    message: Message,
+    words: &[u16],
+    orders: &[u64],
     ballots: &[u8],
-    heard: &[u16],
 ) -> Effect
-    requires { ⌜ (who < numbers .n) × (sender < numbers .n) × (Reach numbers (now proposals) (now ballots) (now heard)) ⌝ }
-    ensures { λ r. ⌜ r ≡ hear-rule numbers (guarded numbers (sent-words numbers (now (proposals .entry)) (now (ballots .entry))))
-        (listener 0 0 (guarded numbers (inbox-in numbers (now (proposals .entry)) (now (ballots .entry)) (now (heard .entry)) who)))
-        sender slot phase (sort-of sort) ⌝ }
+    requires { ⌜ (who < numbers .n) × (message .sender .0 < numbers .n) × (Reach numbers (now words) (now orders) (now ballots)) ⌝ }
+    ensures { λ r. ⌜ r ≡ settle (hear-rule numbers (guarded numbers (sent-words numbers (now (orders .entry)) (now (ballots .entry))))
+        (reading 0 0 (guarded numbers (inbox-in numbers (now (orders .entry)) (now (ballots .entry)) (now (words .entry)) who)))
+        message (sort-of (message .sort))) ⌝ }
 {
-    if sort == 1 {
+    if message.sort == 1 {
         return hear_message(
             numbers,
             who,
-            sender,
             Sort::Proposals,
-            slot,
-            phase,
-            proposals,
+            message,
+            words,
+            orders,
             ballots,
-            heard,
         );
     }
-    if sort == 2 {
-        return hear_message(
-            numbers,
-            who,
-            sender,
-            Sort::States,
-            slot,
-            phase,
-            proposals,
-            ballots,
-            heard,
-        );
+    if message.sort == 2 {
+        return hear_message(numbers, who, Sort::States, message, words, orders, ballots);
     }
-    if sort == 3 {
-        return hear_message(
-            numbers,
-            who,
-            sender,
-            Sort::Votes,
-            slot,
-            phase,
-            proposals,
-            ballots,
-            heard,
-        );
+    if message.sort == 3 {
+        return hear_message(numbers, who, Sort::Votes, message, words, orders, ballots);
     }
     Effect::Refuse(Refusal::NoSuchMessage)
 }

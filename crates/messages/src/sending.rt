@@ -1,28 +1,28 @@
 // What sending and hearing a message store.
-use crate::addresses::ballot_place;
-use crate::addresses::heard_place;
-use crate::addresses::proposal_place;
-use crate::words::number_of;
+use crate::words::word_number;
 use cells::masks::own_bit;
 use cells::masks::with_bit;
+use layout::ballot_place;
+use layout::heard_place;
+use layout::proposal_place;
 use model::Numbers;
 use model::Sort;
 use model::Word;
 ghost use mathlib.Core.Path.{_≡_};
 ghost use Prim.Native.Nat.{_<_, _≤_, _^_};
 ghost use lib.ListN.{length, getD, set};
-ghost use Rattle.tables.specs.Layout.{with-bit, proposal-cell, ballot-cell, heard-cell, proposals-need, ballots-need, heard-need};
+ghost use Rattle.tables.specs.Layout.{mask-bits, with-bit, proposal-cell, ballot-cell, heard-cell, words-need, orders-need, ballots-need};
 ghost use Rattle.tables.specs.Bounds.{Bounds};
 ghost use Rattle.tables.specs.Write.{word-number, proposal-stored, ballot-stored};
 ghost use Rattle.tables.specs.Addresses.{Within};
-ghost use Rattle.messages.specs.Reach.{Message, Reach, Fitting};
+ghost use Rattle.messages.specs.Reach.{Reach, Fitting};
 
-fn store_proposal(numbers: Numbers, who: usize, slot: usize, x: u64, proposals: &mut [u64])
-    requires { ⌜ (Bounds numbers) × (slot < numbers .slots) × (who < numbers .n) × (proposals-need numbers ≤ length (now proposals)) ⌝ }
-    ensures { λ _. ⌜ now (proposals .exit) ≡ set (now (proposals .entry)) (proposal-cell numbers slot who) x ⌝ }
+fn store_proposal(numbers: Numbers, who: usize, slot: usize, x: u64, orders: &mut [u64])
+    requires { ⌜ (Bounds numbers) × (slot < numbers .slots) × (who < numbers .n) × (orders-need numbers ≤ length (now orders)) ⌝ }
+    ensures { λ _. ⌜ now (orders .exit) ≡ set (now (orders .entry)) (proposal-cell numbers slot who) x ⌝ }
 {
     let at = proposal_place(numbers, slot, who);
-    proposals[at] = x;
+    orders[at] = x;
 }
 
 fn store_ballot(
@@ -34,7 +34,7 @@ fn store_ballot(
     x: u64,
     ballots: &mut [u8],
 )
-    requires { ⌜ (Message numbers sort slot phase who) × (x ≤ 3) × (ballots-need numbers ≤ length (now ballots)) ⌝ }
+    requires { ⌜ (Bounds numbers) × (Within numbers sort slot phase who) × (x ≤ 3) × (ballots-need numbers ≤ length (now ballots)) ⌝ }
     ensures { λ _. ⌜ now (ballots .exit) ≡ set (now (ballots .entry)) (ballot-cell numbers sort slot phase who) x ⌝ }
 {
     let at = ballot_place(numbers, sort, slot, phase, who);
@@ -48,13 +48,13 @@ fn store_mark(
     sort: Sort,
     slot: usize,
     phase: usize,
-    heard: &mut [u16],
+    words: &mut [u16],
 )
-    requires { ⌜ (Message numbers sort slot phase who) × (heard-need numbers ≤ length (now heard)) ⌝ }
-    ensures { λ _. ⌜ now (heard .exit) ≡ set (now (heard .entry)) (heard-cell numbers sort slot phase who) (2 ^ who) ⌝ }
+    requires { ⌜ (Bounds numbers) × (Within numbers sort slot phase who) × (words-need numbers ≤ length (now words)) ⌝ }
+    ensures { λ _. ⌜ now (words .exit) ≡ set (now (words .entry)) (heard-cell numbers sort slot phase who) (2 ^ who) ⌝ }
 {
     let at = heard_place(numbers, sort, slot, phase, who);
-    heard[at] = own_bit(who);
+    words[at] = own_bit(who);
 }
 
 pub fn send_message(
@@ -64,19 +64,19 @@ pub fn send_message(
     slot: usize,
     phase: usize,
     word: Word,
-    proposals: &mut [u64],
+    words: &mut [u16],
+    orders: &mut [u64],
     ballots: &mut [u8],
-    heard: &mut [u16],
 )
-    requires { ⌜ (Within numbers sort slot phase who) × (Fitting sort word) × (Reach numbers (now proposals) (now ballots) (now heard)) ⌝ }
-    ensures { λ _. ⌜ (now (proposals .exit) ≡ proposal-stored sort (proposal-cell numbers slot who) (word-number word) (now (proposals .entry)))
-        × (now (ballots .exit) ≡ ballot-stored sort (ballot-cell numbers sort slot phase who) (word-number word) (now (ballots .entry)))
-        × (now (heard .exit) ≡ set (now (heard .entry)) (heard-cell numbers sort slot phase who) (2 ^ who)) ⌝ }
+    requires { ⌜ (Within numbers sort slot phase who) × (Fitting sort word) × (Reach numbers (now words) (now orders) (now ballots)) ⌝ }
+    ensures { λ _. ⌜ (now (words .exit) ≡ set (now (words .entry)) (heard-cell numbers sort slot phase who) (2 ^ who))
+        × (now (orders .exit) ≡ proposal-stored sort (proposal-cell numbers slot who) (word-number word) (now (orders .entry)))
+        × (now (ballots .exit) ≡ ballot-stored sort (ballot-cell numbers sort slot phase who) (word-number word) (now (ballots .entry))) ⌝ }
 {
-    let x = number_of(word);
-    store_mark(numbers, who, sort, slot, phase, heard);
+    let x = word_number(word);
+    store_mark(numbers, who, sort, slot, phase, words);
     match sort {
-        Sort::Proposals => store_proposal(numbers, who, slot, x, proposals),
+        Sort::Proposals => store_proposal(numbers, who, slot, x, orders),
         Sort::States => store_ballot(numbers, who, sort, slot, phase, x, ballots),
         Sort::Votes => store_ballot(numbers, who, sort, slot, phase, x, ballots),
     }
@@ -90,11 +90,12 @@ pub fn mark_heard(
     slot: usize,
     phase: usize,
     sender: usize,
-    heard: &mut [u16],
+    words: &mut [u16],
 )
-    requires { ⌜ (who < 16) × (Message numbers sort slot phase sender) × (heard-need numbers ≤ length (now heard)) ⌝ }
-    ensures { λ _. ⌜ now (heard .exit) ≡ set (now (heard .entry)) (heard-cell numbers sort slot phase sender) (with-bit (getD (now (heard .entry)) (heard-cell numbers sort slot phase sender) 0) who) ⌝ }
+    requires { ⌜ (who < mask-bits) × (Bounds numbers) × (Within numbers sort slot phase sender) × (words-need numbers ≤ length (now words)) ⌝ }
+    ensures { λ _. let i = heard-cell numbers sort slot phase sender in
+        ⌜ now (words .exit) ≡ set (now (words .entry)) i (with-bit (getD (now (words .entry)) i 0) who) ⌝ }
 {
     let at = heard_place(numbers, sort, slot, phase, sender);
-    heard[at] = with_bit(heard[at], who);
+    words[at] = with_bit(words[at], who);
 }

@@ -1,15 +1,18 @@
 // What a message says, by the number that stands for it, and what a replica has heard of it.
-use crate::addresses::ballot_place;
-use crate::addresses::heard_place;
-use crate::addresses::proposal_place;
 use cells::masks::has_bit;
+use layout::ballot_place;
+use layout::heard_place;
+use layout::proposal_place;
 use model::Numbers;
 use model::Sort;
 use model::Word;
 ghost use mathlib.Core.Path.{_≡_};
-ghost use Prim.Native.Nat.{_<_};
-ghost use Rattle.tables.specs.View.{word-in, letter, sent-words, inbox-in};
+ghost use Prim.Native.Nat.{_<_, _≤_};
+ghost use lib.ListN.{length, getD};
+ghost use Rattle.tables.specs.Layout.{mask-bits, heard-cell, words-need};
+ghost use Rattle.tables.specs.View.{word-in, counts-for, letter, sent-words, inbox-in};
 ghost use Rattle.tables.specs.Write.{word-number};
+ghost use Rattle.tables.specs.Bounds.{Bounds};
 ghost use Rattle.tables.specs.Addresses.{Within};
 ghost use Rattle.messages.specs.Reach.{Reach};
 
@@ -47,7 +50,7 @@ pub fn word_in(sort: Sort, x: u64) -> Word
     }
 }
 
-pub fn number_of(word: Word) -> u64
+pub fn word_number(word: Word) -> u64
     ensures { λ r. ⌜ r ≡ word-number word ⌝ }
 {
     match word {
@@ -75,17 +78,17 @@ fn letter_at(
     slot: usize,
     phase: usize,
     sender: usize,
-    proposals: &[u64],
+    words: &[u16],
+    orders: &[u64],
     ballots: &[u8],
-    heard: &[u16],
 ) -> u64
-    requires { ⌜ (Within numbers sort slot phase sender) × (Reach numbers (now proposals) (now ballots) (now heard)) ⌝ }
-    ensures { λ r. ⌜ r ≡ letter numbers (now (proposals .entry)) (now (ballots .entry)) sort slot phase sender ⌝ }
+    requires { ⌜ (Within numbers sort slot phase sender) × (Reach numbers (now words) (now orders) (now ballots)) ⌝ }
+    ensures { λ r. ⌜ r ≡ letter numbers (now (orders .entry)) (now (ballots .entry)) sort slot phase sender ⌝ }
 {
     match sort {
         Sort::Proposals => {
             let at = proposal_place(numbers, slot, sender);
-            proposals[at]
+            orders[at]
         }
         Sort::States => {
             let at = ballot_place(numbers, sort, slot, phase, sender);
@@ -104,24 +107,35 @@ pub fn sent_word(
     slot: usize,
     phase: usize,
     sender: usize,
-    proposals: &[u64],
+    words: &[u16],
+    orders: &[u64],
     ballots: &[u8],
-    heard: &[u16],
 ) -> Word
-    requires { ⌜ (Within numbers sort slot phase sender) × (Reach numbers (now proposals) (now ballots) (now heard)) ⌝ }
-    ensures { λ r. ⌜ r ≡ sent-words numbers (now (proposals .entry)) (now (ballots .entry)) sort slot phase sender ⌝ }
+    requires { ⌜ (Within numbers sort slot phase sender) × (Reach numbers (now words) (now orders) (now ballots)) ⌝ }
+    ensures { λ r. ⌜ r ≡ sent-words numbers (now (orders .entry)) (now (ballots .entry)) sort slot phase sender ⌝ }
 {
-    let x = letter_at(
-        numbers,
-        sort,
-        slot,
-        phase,
-        sender,
-        proposals,
-        ballots,
-        heard,
-    );
+    let x = letter_at(numbers, sort, slot, phase, sender, words, orders, ballots);
     word_in(sort, x)
+}
+
+// Whether a sent message counts as heard by `who`: its own does, and no mark is looked up for it.
+pub fn counts_for(
+    numbers: Numbers,
+    who: usize,
+    sort: Sort,
+    slot: usize,
+    phase: usize,
+    sender: usize,
+    words: &[u16],
+) -> bool
+    requires { ⌜ (who < mask-bits) × (Bounds numbers) × (Within numbers sort slot phase sender) × (words-need numbers ≤ length (now words)) ⌝ }
+    ensures { λ r. ⌜ r ≡ counts-for who sender (getD (now (words .entry)) (heard-cell numbers sort slot phase sender) 0) ⌝ }
+{
+    if sender == who {
+        return true;
+    }
+    let at = heard_place(numbers, sort, slot, phase, sender);
+    has_bit(words[at], who)
 }
 
 // What `who` has heard of it.
@@ -132,25 +146,15 @@ pub fn heard_word(
     slot: usize,
     phase: usize,
     sender: usize,
-    proposals: &[u64],
+    words: &[u16],
+    orders: &[u64],
     ballots: &[u8],
-    heard: &[u16],
 ) -> Word
-    requires { ⌜ (who < 16) × (Within numbers sort slot phase sender) × (Reach numbers (now proposals) (now ballots) (now heard)) ⌝ }
-    ensures { λ r. ⌜ r ≡ inbox-in numbers (now (proposals .entry)) (now (ballots .entry)) (now (heard .entry)) who sort slot phase sender ⌝ }
+    requires { ⌜ (who < mask-bits) × (Within numbers sort slot phase sender) × (Reach numbers (now words) (now orders) (now ballots)) ⌝ }
+    ensures { λ r. ⌜ r ≡ inbox-in numbers (now (orders .entry)) (now (ballots .entry)) (now (words .entry)) who sort slot phase sender ⌝ }
 {
-    let at = heard_place(numbers, sort, slot, phase, sender);
-    if has_bit(heard[at], who) {
-        return sent_word(
-            numbers,
-            sort,
-            slot,
-            phase,
-            sender,
-            proposals,
-            ballots,
-            heard,
-        );
+    if counts_for(numbers, who, sort, slot, phase, sender, words) {
+        return sent_word(numbers, sort, slot, phase, sender, words, orders, ballots);
     }
     Word::Unsent
 }

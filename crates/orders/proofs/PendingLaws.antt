@@ -1,34 +1,31 @@
 -- The tag to propose. The loop goes from the front and asks for the replica's bit at each place itself; the definition goes
 -- from the end and asks whether the tag there is held at any place. Both find the first of the same tags, even where a tag
 -- stands twice.
-use mathlib.Core.Path.{_≡_, refl, sym, _∙_, ap, subst}
-use mathlib.Core.Bool.{Bool, true, false, not, _&&_, _||_, true≢false}
+use mathlib.Core.Path.{_≡_, refl, sym, _∙_, ap, ap₂, subst, fun-ext}
+use mathlib.Core.Bool.{Bool, true, false, not, _&&_, _||_, true≢false, and-false as and-false-right}
 use mathlib.Core.List.{List}
 use mathlib.Core.Logic.{_⊎_, inl, inr, ⊎-elim}
-use Prim.Native.Nat.{ℕ, zero, suc, _+_, _<_, _≤_}
+use Prim.Native.Nat.{ℕ, zero, suc, _+_, _-_, _<_, _≤_}
 use native.Mathlib.Omega.{arith}
 use native.Mathlib.Decide.{ℕ-discrete}
+use native.Mathlib.Nat.{le-antisymm}
 use lib.Dec.{eqb}
 use lib.ListN.{length, getD, take}
-use borrow.Author.Tests.{eqb-true, eqb-false, eq-eqb, ne-eqb, ltb-true, ltb-false, not-true}
-use Rattle.model.specs.Tests.{if, any}
+use borrow.Author.Tests.{eqb-true, eqb-false, eq-eqb, ne-eqb, ltb-true, ltb-false, not-true, not-false}
+use Rattle.model.specs.Tests.{if}
 use Rattle.model.specs.declared.Numbers.{Numbers}
 use Rattle.model.specs.declared.Round.the-variants.{Idle}
 use Rattle.model.specs.Rack.{Replica}
 use Rattle.model.specs.Rules.{ahead, earlier, first-of, logged, pending, next-tag}
-use Rattle.model.proofs.Branches.{if-false}
-use Rattle.model.proofs.Cases.{clash, and-true, and-both, or-true, or-false, if-ind}
-use Rattle.tables.specs.Layout.{has-bit}
-use Rattle.tables.specs.View.{holds}
-use Rattle.known.specs.Room.{holder}
-use Rattle.cells.proofs.RecordLaws.{any-here}
-use Rattle.known.proofs.TagLaws.{rest, rest-none, rest-more}
-
--- a number that passes, if one of the first does
-any-place : (k : ℕ) (P : ℕ → Bool) → any k P ≡ true → (j : ℕ) × (j < k) × (P j ≡ true)
-unfolding any
-any-place zero P e = clash e
-any-place (suc k) P e = ⊎-elim (λ h. (k, omega arith, h)) (λ h. let (j, l, q) = any-place k P h in (j, omega arith, q)) (or-true (P k) _ e)
+use Rattle.model.proofs.Branches.{told, if-false}
+use Rattle.model.proofs.Cases.{and-true, and-both, or-true, or-false, if-ind}
+use Rattle.tables.specs.Layout.{has-bit, known-in, holders-base, holder-cell, log-cell}
+use Rattle.tables.specs.View.{held-from, holds, log-in}
+use Rattle.tables.specs.Addresses.{log-in-range, log-read}
+use Rattle.model.proofs.Counting.{any-none, any-more, any-here, any-place, any-same}
+use Rattle.known.specs.Room.{Acting, as-holder}
+use Rattle.orders.specs.Waiting.{logged-from, waits-at}
+use Rattle.known.proofs.TagLaws.{in-tags, rest, rest-none, rest-more}
 
 -- ---- the order of proposing: what the laws below know of it
 
@@ -36,6 +33,7 @@ any-place (suc k) P e = ⊎-elim (λ h. (k, omega arith, h)) (λ h. let (j, l, q
 pub record NoLater (r x : ℕ) : Type 0 where
   pub by : r ≤ x
 
+-- it is an order
 no-later-self : (x : ℕ) → NoLater x x
 no-later-self x = omega arith
 
@@ -45,6 +43,7 @@ no-later-both a b = omega arith
 no-later-same : {r s : ℕ} → NoLater r s → NoLater s r → r ≡ s
 no-later-same a b = omega arith
 
+-- what comes ahead is not later; of what does not, the other is not
 ahead-no-later : {x y : ℕ} → ahead x y ≡ true → NoLater x y
 ahead-no-later {x} {y} e = let h = ltb-true x y e in omega arith
 
@@ -57,6 +56,7 @@ behind-no-later {x} {y} e = let h = ltb-false x y e in omega arith
 abbrev pub First : (ℕ → Type 0) → ℕ → Type 0
 First Is r = ((x : ℕ) → Is x → 0 < x → (0 < r) × NoLater r x) × (0 < r → Is r)
 
+-- the first of the same tags is the same
 same-first : {A B : ℕ → Type 0} {r s : ℕ} → ((x : ℕ) → A x → B x) → ((x : ℕ) → B x → A x) → First A r → First B s → r ≡ s
 same-first {r = r} {s = s} to back a b = go r s (λ h. b .0 r (to r (a .1 h)) h) (λ h. a .0 s (back s (b .1 h)) h)
   where
@@ -69,10 +69,30 @@ same-first {r = r} {s = s} to back a b = go r s (λ h. b .0 r (to r (a .1 h)) h)
 abbrev joined : Bool → ℕ → ℕ → ℕ
 joined ok y b = if (ok && not (eqb y 0)) (earlier y b) b
 
--- a tag that is not ahead changes nothing, whether it passes or not
-pub not-ahead : (t : Bool) (y b : ℕ) → (eqb b 0 || ahead y b) ≡ false → b ≡ if t (earlier y b) b
-unfolding earlier
-not-ahead t y b e = if-ind (λ (r : ℕ). b ≡ r) t (λ _. sym (if-false _ _ e)) (λ _. refl)
+-- a tag y that passes or not beside the first so far: one law for each way out of the code
+module _ (ok : Bool) (y b : ℕ) where
+  -- it is 0
+  pub stays-blank : {z : Bool} → z ≡ eqb y 0 → z ≡ true → b ≡ joined ok y b
+  unfolding if
+  stays-blank e q = rw (told e q, and-false-right ok)
+
+  -- it does not come ahead, whether it passes or not
+  pub stays-ahead : {none l o : Bool} → none ≡ eqb b 0 → l ≡ ahead y b → o ≡ (none || l) → not o ≡ true → b ≡ joined ok y b
+  unfolding earlier
+  stays-ahead n l e q =
+      let behind = sym (ap₂ _||_ n l) ∙ told e (not-true _ q) in
+      if-ind (λ (r : ℕ). b ≡ r) (ok && not (eqb y 0)) (λ _. sym (if-false _ _ behind)) (λ _. refl)
+
+  -- it comes ahead and passes
+  pub comes-ahead : {z none l o r : Bool} → z ≡ eqb y 0 → z ≡ false → none ≡ eqb b 0 → l ≡ ahead y b → o ≡ (none || l) → not o ≡ false → r ≡ ok → r ≡ true
+      → y ≡ joined ok y b
+  unfolding earlier if
+  comes-ahead e z n l w q p t = rw (told p t, told e z, sym (ap₂ _||_ n l) ∙ told w (not-false _ q))
+
+  -- it does not pass
+  pub stays-out : {r : Bool} → r ≡ ok → r ≡ false → b ≡ joined ok y b
+  unfolding if
+  stays-out p t = rw (told p t)
 
 -- B is A and one more tag y, if it passes
 module _ {A B : ℕ → Type 0} (ok : Bool) (y : ℕ) (kept : (x : ℕ) → A x → B x) (added : ok ≡ true → B y)
@@ -85,17 +105,21 @@ module _ {A B : ℕ → Type 0} (ok : Bool) (y : ℕ) (kept : (x : ℕ) → A x 
       go x pos (inl is) = let l = f .0 x is pos in let m = old (l .0) in (m .0, no-later-both (m .1) (l .1))
       go x pos (inr (u, same)) = let m = new u (omega arith) in (m .0, subst (NoLater r) same (m .1))
 
+  -- b stays one of them
   further : 0 < b → B b
   further pos = kept b (f .1 pos)
 
+  -- y comes ahead of b, or there is no b
   first-ahead : (eqb b 0 || ahead y b) ≡ true → 0 < b → NoLater y b
   first-ahead q pos = ⊎-elim (λ n. let p = eqb-true b 0 n in absurd (omega arith)) ahead-no-later (or-true (eqb b 0) _ q)
 
+  -- y does not pass, or is 0
   left : (ok && not (eqb y 0)) ≡ false → First B b
   left e =
       let never : ok ≡ true → 0 < y → ⊥ = (λ u pos. true≢false (sym (and-both ok _ u (ap not (ne-eqb y 0 (omega arith)))) ∙ e)) in
       least b (λ u pos. absurd (never u pos)) (λ pos. (pos, no-later-self b)) further
 
+  -- y passes
   taken : (ok && not (eqb y 0)) ≡ true → First B (earlier y b)
   unfolding earlier
   taken e = let (u, z) = and-true ok _ e in let some = eqb-false y 0 (not-true _ z) in if-ind (First B) (eqb b 0 || ahead y b)
@@ -103,6 +127,7 @@ module _ {A B : ℕ → Type 0} (ok : Bool) (y : ℕ) (kept : (x : ℕ) → A x 
       (λ q. let (n, l) = or-false (eqb b 0) _ q in let p = eqb-false b 0 n in
       least b (λ _ pos. (omega arith, behind-no-later l)) (λ pos. (pos, no-later-self b)) further)
 
+  -- one more tag
   turn : First B (joined ok y b)
   turn = if-ind (First B) (ok && not (eqb y 0)) taken left
 
@@ -112,6 +137,7 @@ module _ (ts : List ℕ) where
   Stands ok a b x = (j : ℕ) × (a ≤ j) × (j < b) × (ok j ≡ true) × (getD ts j 0 ≡ x)
 
   module _ (ok : ℕ → Bool) where
+    -- no place yet
     pub first-none : (a : ℕ) → First (Stands ok a a) 0
     first-none a = (λ x (j, from, to, _, _) pos. absurd (omega arith), λ pos. absurd (omega arith))
 
@@ -132,45 +158,90 @@ module _ (ts : List ℕ) where
         subst (First (Stands ok 0 (i + 1))) (sym e)
         (stands-more i (omega arith) (omega arith) (λ j h l. (h, omega arith)) (λ j h l ne. (h, omega arith)) f)
 
-module _ (ts : List ℕ) (k : ℕ) where
-  -- ---- the definition's, whose test is of the tag
+-- ---- the definition's, whose test is of the tag
 
-  module _ (l : k ≤ length ts) (ok : ℕ → Bool) where
-    abbrev Found : ℕ → List ℕ → Type 0
-    Found i xs = First (Stands ts (λ j. ok (getD ts j 0)) i k) (first-of ok xs)
+module _ (ts : List ℕ) (k : ℕ) (l : k ≤ length ts) (ok : ℕ → Bool) where
+  -- it is the first of the tags from place i on
+  abbrev Found : ℕ → List ℕ → Type 0
+  Found i xs = First (Stands ts (λ j. ok (getD ts j 0)) i k) (first-of ok xs)
 
-    of-rest : (left i : ℕ) → i + left ≡ k → Found i (rest ts k i)
-    unfolding first-of
-    of-rest zero i e = let h : k ≡ i = omega arith in subst (λ (j : ℕ). Found j (rest ts k j)) h (subst (Found k) (sym (rest-none ts k l)) (first-none ts _ k))
-    of-rest (suc left) i e =
-        subst (Found i) (sym (rest-more ts k l i (omega arith)))
-        (stands-more ts _ i (omega arith) (omega arith) (λ j h l. (omega arith, l)) (λ j h l ne. (omega arith, l)) (of-rest left (suc i) (omega arith)))
+  -- from the last place to the first
+  of-rest : (left i : ℕ) → i + left ≡ k → Found i (rest ts k i)
+  unfolding first-of
+  of-rest zero i e =
+      let h : k ≡ i = omega arith in
+      subst (λ (j : ℕ). Found j (rest ts k j)) h (subst (Found k) (sym (rest-none ts k l)) (first-none ts _ k))
+  of-rest (suc left) i e =
+      subst (Found i) (sym (rest-more ts k l i (omega arith)))
+      (stands-more ts _ i (omega arith) (omega arith) (λ j h l. (omega arith, l)) (λ j h l ne. (omega arith, l)) (of-rest left (suc i) (omega arith)))
 
-  -- ---- a tag is held where it stands, or at another place that has it
+-- ---- the log, entry by entry
 
-  module _ (hs ls : List ℕ) (N : Numbers) (c s : ℕ) where
-    abbrev own : Replica
-    own = holder N c Idle s k ts hs ls
+-- a replica's entries stand one behind the other, from that of slot 0 on
+entry-there : (N : Numbers) (os : List ℕ) (c s : ℕ) {base : ℕ} → base ≡ log-cell N c 0 → s < N .slots → getD os (base + s) 0 ≡ log-in N os c s
+entry-there N os c s from h = let e : log-cell N c 0 + s ≡ log-cell N c s = omega arith in rw (from, e) (log-read N os c s h)
 
-    -- what the loop asks of a place
-    abbrev pub waits : ℕ → Bool
-    waits j = has-bit (getD hs j 0) c && not (logged own (getD ts j 0))
+-- and all of them stand in their memory
+pub log-there : {N : Numbers} {c : ℕ} {ws os : List ℕ} (s : ℕ) {base : ℕ} → Acting N c ws os → base ≡ log-cell N c 0 → s ≤ N .slots
+    → base + s ≤ length os
+log-there {N} {c} s acts from low =
+    let some = acts .room .bounds .slots-some in
+    let last = log-in-range N c (N .slots - 1) (acts .who) (omega arith) in
+    let enough = acts .room .orders in
+    omega arith
 
-    pending-here : (x : ℕ) → Stands ts waits 0 k x → Stands ts (λ j. pending own (getD ts j 0)) 0 k x
-    unfolding holds
-    pending-here x (j, from, known, passes, tag) =
-        let (b, new) = and-true (has-bit (getD hs j 0) c) _ passes in
-        let held = any-here k (λ a. eqb (getD ts a 0) (getD ts j 0) && has-bit (getD hs a 0) c) j known (and-both _ _ (eq-eqb (getD ts j 0) _ refl) b) in
-        (j, from, known, and-both _ _ held new, tag)
+-- no entry is looked at yet, and one more
+pub logged-none : (base : ℕ) (os : List ℕ) (x : ℕ) → false ≡ logged-from base 0 os x
+unfolding logged-from
+logged-none base os x = sym (any-none _)
 
-    held-somewhere : (x : ℕ) → Stands ts (λ j. pending own (getD ts j 0)) 0 k x → Stands ts waits 0 k x
-    unfolding holds
-    held-somewhere x (j, from, known, passes, tag) =
-        let (held, new) = and-true (holds k ts hs c (getD ts j 0)) _ passes in
-        let (a, inside, both) = any-place k _ held in
-        let (e, b) = and-true (eqb (getD ts a 0) (getD ts j 0)) _ both in
-        let same = eqb-true _ _ e in
-        (a, omega arith, inside, and-both _ _ b (ap (λ (y : ℕ). not (logged own y)) same ∙ new), same ∙ tag)
+pub logged-more : (base i : ℕ) (os : List ℕ) (x : ℕ) {r found : Bool} → found ≡ logged-from base i os x → r ≡ (eqb (getD os (base + i) 0) x || found)
+    → r ≡ logged-from base (i + 1) os x
+unfolding logged-from
+logged-more base i os x was e = e ∙ ap (λ (b : Bool). eqb (getD os (base + i) 0) x || b) was ∙ sym (any-more i _)
 
-    pub first-is : {r : ℕ} → k ≤ length ts → First (Stands ts waits 0 k) r → r ≡ next-tag (take k ts) own
-    first-is l f = same-first pending-here held-somewhere f (of-rest l (pending own) k 0 (omega arith))
+-- ---- a tag is held where it stands, or at another place that has it
+
+module _ (N : Numbers) (c s : ℕ) (ws os : List ℕ) where
+  abbrev known : ℕ
+  known = known-in ws
+
+  abbrev own : Replica
+  own = as-holder N c Idle s ws os
+
+  -- what is asked of a place
+  abbrev waits : ℕ → Bool
+  waits j = has-bit (getD ws (holder-cell N j) 0) c && not (logged own (getD os j 0))
+
+  -- a tag that waits at its place is pending
+  pending-here : (x : ℕ) → Stands os waits 0 known x → Stands os (λ j. pending own (getD os j 0)) 0 known x
+  unfolding held-from
+  pending-here x (j, from, to, passes, tag) =
+      let (b, new) = and-true (has-bit (getD ws (holder-cell N j) 0) c) _ passes in
+      let at : ℕ → Bool = λ a. eqb (getD os a 0) (getD os j 0) && has-bit (getD ws (holder-cell N a) 0) c in
+      let held = any-here known at j to (and-both _ _ (eq-eqb (getD os j 0) _ refl) b) in
+      (j, from, to, and-both _ _ held new, tag)
+
+  -- a pending tag waits at some place
+  held-somewhere : (x : ℕ) → Stands os (λ j. pending own (getD os j 0)) 0 known x → Stands os waits 0 known x
+  unfolding held-from
+  held-somewhere x (j, from, to, passes, tag) =
+      let (held, new) = and-true (holds N known os ws c (getD os j 0)) _ passes in
+      let (a, inside, both) = any-place known _ held in
+      let (e, b) = and-true (eqb (getD os a 0) (getD os j 0)) _ both in
+      let same = eqb-true _ _ e in
+      (a, omega arith, inside, and-both _ _ b (ap (λ (y : ℕ). not (logged own y)) same ∙ new), same ∙ tag)
+
+  module _ {holders log : ℕ} (masks : holders ≡ holders-base N) (entries : log ≡ log-cell N c 0) (low : s ≤ N .slots) where
+    -- the code asks a place the same
+    asks-alike : waits-at holders log s c ws os ≡ waits
+    unfolding logged-from
+    asks-alike = fun-ext (λ j. ap₂ (λ (b : ℕ) (l : Bool). has-bit (getD ws (b + j) 0) c && not l) masks
+        (any-same s _ _ (λ i h. ap (λ (y : ℕ). eqb y (getD os j 0)) (entry-there N os c i entries (omega arith)))))
+
+    -- the loop's first, after all places, is the definition's
+    pub first-is : {k i r : ℕ} → Acting N c ws os → k ≡ known-in ws → i ≤ k → k ≤ i → First (Stands os (waits-at holders log s c ws os) 0 i) r
+        → r ≡ next-tag (take known os) own
+    first-is {r = r} acts count to from f =
+        let all = ap₂ (λ (ok : ℕ → Bool) (j : ℕ). First (Stands os ok 0 j) r) asks-alike (le-antisymm to from ∙ count) in
+        same-first pending-here held-somewhere (subst (λ (A : Type 0). A) all f) (of-rest os known (in-tags (acts .room)) (pending own) known 0 (omega arith))

@@ -1,19 +1,22 @@
 // The tag that a replica proposes next: of those that it holds and has not in its log, the first in the order of proposing.
 use cells::masks::has_bit;
+use cells::records::known_in;
 use cells::records::or;
 use known::is_blank;
+use layout::holders_base;
+use layout::log_place;
 use model::Numbers;
 ghost use mathlib.Core.Path.{_≡_};
 ghost use mathlib.Core.Bool.{_&&_, not};
-ghost use Prim.Native.Nat.{_<_, _≤_};
+ghost use Prim.Native.Nat.{_+_, _<_, _≤_};
 ghost use lib.Dec.{eqb};
 ghost use lib.ListN.{length, take};
 ghost use Rattle.model.specs.declared.Round.the-variants.{Idle};
-ghost use Rattle.model.specs.Tests.{if, any};
+ghost use Rattle.model.specs.Tests.{if};
 ghost use Rattle.model.specs.Rules.{ahead, earlier, next-tag};
-ghost use Rattle.tables.specs.Layout.{has-bit, logs-need};
-ghost use Rattle.tables.specs.View.{log-in};
-ghost use Rattle.known.specs.Room.{Desk, holder};
+ghost use Rattle.tables.specs.Layout.{mask-bits, has-bit, known-in};
+ghost use Rattle.known.specs.Room.{Acting, as-holder};
+ghost use Rattle.orders.specs.Waiting.{logged-from};
 
 // The order in which pending tags are proposed.
 fn is_ahead(x: u64, y: u64) -> bool
@@ -22,23 +25,15 @@ fn is_ahead(x: u64, y: u64) -> bool
     x < y
 }
 
-// The entry of a slot in the log of `who`.
-fn log_entry(numbers: Numbers, who: usize, slot: usize, logs: &[u64]) -> u64
-    requires { ⌜ (who < numbers .n) × (slot < numbers .slots) × (logs-need numbers ≤ length (now logs)) ⌝ }
-    ensures { λ r. ⌜ r ≡ log-in numbers (now (logs .entry)) who slot ⌝ }
-{
-    logs[who * numbers.slots + slot]
-}
-
-// Whether one of the closed slots has the tag.
-fn is_logged(numbers: Numbers, who: usize, closed: usize, x: u64, logs: &[u64]) -> bool
-    requires { ⌜ (who < numbers .n) × (closed ≤ numbers .slots) × (logs-need numbers ≤ length (now logs)) ⌝ }
-    ensures { λ r. ⌜ r ≡ any closed (λ s. eqb (log-in numbers (now (logs .entry)) who s) x) ⌝ }
+// Whether one of the closed slots has the tag. A replica's log is one run of cells, from a base on.
+fn is_logged(base: usize, closed: usize, x: u64, orders: &[u64]) -> bool
+    requires { ⌜ base + closed ≤ length (now orders) ⌝ }
+    ensures { λ r. ⌜ r ≡ logged-from base closed (now (orders .entry)) x ⌝ }
 {
     let mut found = false;
     let mut i = 0;
     while i < closed {
-        found = or(log_entry(numbers, who, i, logs) == x, found);
+        found = or(orders[base + i] == x, found);
         i += 1;
     }
     found
@@ -46,29 +41,31 @@ fn is_logged(numbers: Numbers, who: usize, closed: usize, x: u64, logs: &[u64]) 
 
 // Whether a known place makes its tag pending. Its own bit is enough: a tag that is held only at another place that has it
 // is found there.
-fn waits_here(numbers: Numbers, who: usize, closed: usize, x: u64, mask: u16, logs: &[u64]) -> bool
-    requires { ⌜ (who < 16) × (who < numbers .n) × (closed ≤ numbers .slots) × (logs-need numbers ≤ length (now logs)) ⌝ }
-    ensures { λ r. ⌜ r ≡ (has-bit mask who && not (any closed (λ s. eqb (log-in numbers (now (logs .entry)) who s) x))) ⌝ }
+fn waits_here(who: usize, base: usize, closed: usize, x: u64, mask: u16, orders: &[u64]) -> bool
+    requires { ⌜ (who < mask-bits) × (base + closed ≤ length (now orders)) ⌝ }
+    ensures { λ r. ⌜ r ≡ (has-bit mask who && not (logged-from base closed (now (orders .entry)) x)) ⌝ }
 {
     if !has_bit(mask, who) {
         return false;
     }
-    !is_logged(numbers, who, closed, x, logs)
+    !is_logged(base, closed, x, orders)
 }
 
 // The first of the pending tags so far, or this place's tag, if it comes ahead of it and is pending. The log is looked through
 // last.
 fn first_with(
-    numbers: Numbers,
     who: usize,
+    base: usize,
     closed: usize,
     x: u64,
     mask: u16,
     first: u64,
-    logs: &[u64],
+    orders: &[u64],
 ) -> u64
-    requires { ⌜ (who < 16) × (who < numbers .n) × (closed ≤ numbers .slots) × (logs-need numbers ≤ length (now logs)) ⌝ }
-    ensures { λ r. ⌜ r ≡ if ((has-bit mask who && not (any closed (λ s. eqb (log-in numbers (now (logs .entry)) who s) x))) && not (eqb x 0)) (earlier x first) first ⌝ }
+    requires { ⌜ (who < mask-bits) × (base + closed ≤ length (now orders)) ⌝ }
+    ensures { λ r.
+        let waits = has-bit mask who && not (logged-from base closed (now (orders .entry)) x) in
+        ⌜ r ≡ if (waits && not (eqb x 0)) (earlier x first) first ⌝ }
 {
     if is_blank(x) {
         return first;
@@ -76,29 +73,34 @@ fn first_with(
     if !or(is_blank(first), is_ahead(x, first)) {
         return first;
     }
-    if waits_here(numbers, who, closed, x, mask, logs) {
+    if waits_here(who, base, closed, x, mask, orders) {
         return x;
     }
     first
 }
 
 // 0 if no tag is pending.
-pub fn next_tag(
-    numbers: Numbers,
-    who: usize,
-    closed: usize,
-    known: usize,
-    tags: &[u64],
-    holders: &[u16],
-    logs: &[u64],
-) -> u64
-    requires { ⌜ (closed ≤ numbers .slots) × (Desk numbers who known (now tags) (now holders) (now logs)) ⌝ }
-    ensures { λ r. ⌜ r ≡ next-tag (take known (now (tags .entry))) (holder numbers who Idle closed known (now (tags .entry)) (now (holders .entry)) (now (logs .entry))) ⌝ }
+pub fn next_tag(numbers: Numbers, who: usize, closed: usize, words: &[u16], orders: &[u64]) -> u64
+    requires { ⌜ (closed ≤ numbers .slots) × (Acting numbers who (now words) (now orders)) ⌝ }
+    ensures { λ r.
+        let known = take (known-in (now (words .entry))) (now (orders .entry)) in
+        ⌜ r ≡ next-tag known (as-holder numbers who Idle closed (now (words .entry)) (now (orders .entry))) ⌝ }
 {
+    let known = known_in(words) as usize;
+    let holders = holders_base(numbers);
+    let log = log_place(numbers, who, 0);
     let mut first = 0;
     let mut i = 0;
     while i < known {
-        first = first_with(numbers, who, closed, tags[i], holders[i], first, logs);
+        first = first_with(
+            who,
+            log,
+            closed,
+            orders[i],
+            words[holders + i],
+            first,
+            orders,
+        );
         i += 1;
     }
     first

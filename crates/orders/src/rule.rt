@@ -1,8 +1,10 @@
 // Submit, relay and begin: refusals 6 to 12.
 use crate::pending::next_tag;
+use cells::records::known_in;
 use known::held_from;
 use known::is_blank;
 use known::tag_place;
+use layout::holders_base;
 use model::Effect;
 use model::Numbers;
 use model::Refusal;
@@ -14,26 +16,24 @@ ghost use Prim.Native.Nat.{_≤_};
 ghost use lib.ListN.{take};
 ghost use Rattle.model.specs.declared.Round.the-variants.{Idle};
 ghost use Rattle.model.specs.Rack.{same-round};
+ghost use Rattle.model.specs.TurnedAway.{settle};
 ghost use Rattle.model.specs.Rules.{submit-rule, relay-rule, begin-rule};
-ghost use Rattle.known.specs.Room.{Desk, holder};
+ghost use Rattle.tables.specs.Layout.{known-in};
+ghost use Rattle.known.specs.Room.{Acting, as-holder};
 
-pub fn submit_rule(
-    numbers: Numbers,
-    who: usize,
-    x: u64,
-    known: usize,
-    tags: &[u64],
-    holders: &[u16],
-    logs: &[u64],
-) -> Effect
-    requires { ⌜ Desk numbers who known (now tags) (now holders) (now logs) ⌝ }
-    ensures { λ r. ⌜ r ≡ submit-rule (numbers .room) (take known (now (tags .entry))) (holder numbers who Idle 0 known (now (tags .entry)) (now (holders .entry)) (now (logs .entry))) x ⌝ }
+pub fn submit_rule(numbers: Numbers, who: usize, x: u64, words: &[u16], orders: &[u64]) -> Effect
+    requires { ⌜ Acting numbers who (now words) (now orders) ⌝ }
+    ensures { λ r.
+        let known = take (known-in (now (words .entry))) (now (orders .entry)) in
+        let k = as-holder numbers who Idle 0 (now (words .entry)) (now (orders .entry)) in
+        ⌜ r ≡ settle (submit-rule (numbers .room) known k x) ⌝ }
 {
     if is_blank(x) {
         return Effect::Refuse(Refusal::BlankTag);
     }
-    let first = tag_place(x, known, tags);
-    if held_from(who, x, first, known, tags, holders) {
+    let known = known_in(words) as usize;
+    let first = tag_place(x, known, orders);
+    if held_from(who, x, first, known, holders_base(numbers), words, orders) {
         return Effect::Refuse(Refusal::AlreadyHeld);
     }
     if known <= first {
@@ -44,26 +44,22 @@ pub fn submit_rule(
     Effect::Hold(x)
 }
 
-pub fn relay_rule(
-    numbers: Numbers,
-    who: usize,
-    x: u64,
-    known: usize,
-    tags: &[u64],
-    holders: &[u16],
-    logs: &[u64],
-) -> Effect
-    requires { ⌜ Desk numbers who known (now tags) (now holders) (now logs) ⌝ }
-    ensures { λ r. ⌜ r ≡ relay-rule (take known (now (tags .entry))) (holder numbers who Idle 0 known (now (tags .entry)) (now (holders .entry)) (now (logs .entry))) x ⌝ }
+pub fn relay_rule(numbers: Numbers, who: usize, x: u64, words: &[u16], orders: &[u64]) -> Effect
+    requires { ⌜ Acting numbers who (now words) (now orders) ⌝ }
+    ensures { λ r.
+        let known = take (known-in (now (words .entry))) (now (orders .entry)) in
+        let k = as-holder numbers who Idle 0 (now (words .entry)) (now (orders .entry)) in
+        ⌜ r ≡ settle (relay-rule known k x) ⌝ }
 {
     if is_blank(x) {
         return Effect::Refuse(Refusal::BlankTag);
     }
-    let first = tag_place(x, known, tags);
+    let known = known_in(words) as usize;
+    let first = tag_place(x, known, orders);
     if known <= first {
         return Effect::Refuse(Refusal::UnknownTag);
     }
-    if held_from(who, x, first, known, tags, holders) {
+    if held_from(who, x, first, known, holders_base(numbers), words, orders) {
         return Effect::Refuse(Refusal::AlreadyHeld);
     }
     Effect::Hold(x)
@@ -86,13 +82,14 @@ pub fn begin_rule(
     who: usize,
     round: Round,
     closed: usize,
-    known: usize,
-    tags: &[u64],
-    holders: &[u16],
-    logs: &[u64],
+    words: &[u16],
+    orders: &[u64],
 ) -> Effect
-    requires { ⌜ (closed ≤ numbers .slots) × (Desk numbers who known (now tags) (now holders) (now logs)) ⌝ }
-    ensures { λ r. ⌜ r ≡ begin-rule (numbers .slots) (take known (now (tags .entry))) (holder numbers who round closed known (now (tags .entry)) (now (holders .entry)) (now (logs .entry))) ⌝ }
+    requires { ⌜ (closed ≤ numbers .slots) × (Acting numbers who (now words) (now orders)) ⌝ }
+    ensures { λ r.
+        let known = take (known-in (now (words .entry))) (now (orders .entry)) in
+        let k = as-holder numbers who round closed (now (words .entry)) (now (orders .entry)) in
+        ⌜ r ≡ settle (begin-rule (numbers .slots) known k) ⌝ }
 {
     if !is_idle(round) {
         return Effect::Refuse(Refusal::Busy);
@@ -100,7 +97,7 @@ pub fn begin_rule(
     if numbers.slots <= closed {
         return Effect::Refuse(Refusal::LogFull);
     }
-    let x = next_tag(numbers, who, closed, known, tags, holders, logs);
+    let x = next_tag(numbers, who, closed, words, orders);
     if is_blank(x) {
         return Effect::Refuse(Refusal::NothingPending);
     }

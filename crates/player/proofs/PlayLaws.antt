@@ -8,7 +8,7 @@ use Rattle.model.specs.declared.Refusal.the-variants.{ShortTable, UnknownKind, 
 use Rattle.model.specs.declared.Call.{Call}
 use Rattle.model.specs.declared.Answer.{Answer}
 use Rattle.model.specs.declared.Answer.the-variants.{Refused}
-use Rattle.model.proofs.Branches.{if-true, if-false}
+use Rattle.model.proofs.Branches.{when-met, when-missed, none-left}
 use Rattle.tables.specs.Layout.{Tables}
 use Rattle.tables.specs.Calls.{OpenOutcome, open-outcome, called}
 use Rattle.reader.specs.declared.Found.{Found}
@@ -16,23 +16,26 @@ use Rattle.reader.specs.declared.Found.the-variants.{End, Unknown, Cut, Made}
 use Rattle.reader.specs.declared.Read.{Read}
 use Rattle.player.specs.declared.Player.{Player}
 use Rattle.player.specs.declared.Said.the-variants.{Nothing, Stopped, Answered}
-use Rattle.reader.specs.Format.{record-at}
+use Rattle.reader.specs.Format.{file-record}
 use Rattle.player.specs.Play.{Turn, turn-of, out-of-place, too-large, moved-on, called-in-place, answered, turned, turn}
 
+-- a call that is out of place, one that is too large, and one that is performed
 module _ (most : Numbers) (p : Player) (a : Call) (t : Tables) (strip : List ℕ) where
   pub on-misplaced : out-of-place (p .opened) a ≡ true → open-outcome (Refused OutOfPlace) t strip ≡ called-in-place most p a t strip
   unfolding called-in-place
-  on-misplaced h = sym (if-true _ _ h)
+  on-misplaced h = sym (when-met _ _ _ _ h)
 
   pub on-large : out-of-place (p .opened) a ≡ false → too-large most a ≡ true → open-outcome (Refused ShortTable) t strip ≡ called-in-place most p a t strip
   unfolding called-in-place
-  on-large h l = sym (if-false _ _ h ∙ if-true _ _ l)
+  on-large h l = sym (when-missed _ _ _ _ h ∙ when-met _ _ _ _ l)
 
-  pub on-call : {o : OpenOutcome} → out-of-place (p .opened) a ≡ false → too-large most a ≡ false → o ≡ called (p .numbers) a t strip → o ≡ called-in-place most p a t strip
+  pub on-call : {o : OpenOutcome} → out-of-place (p .opened) a ≡ false → too-large most a ≡ false → o ≡ called (p .numbers) a t strip
+      → o ≡ called-in-place most p a t strip
   unfolding called-in-place
-  on-call h l q = q ∙ sym (if-false _ _ h ∙ if-false _ _ l)
+  on-call h l q = q ∙ sym (when-missed _ _ _ _ h ∙ when-missed _ _ _ _ l ∙ none-left _ _)
 
-module _ (most : Numbers) (file : List ℕ) (p : Player) (t : Tables) (strip : List ℕ) {r : Read} (read : r ≡ record-at file (p .at)) where
+-- what was found at the place
+module _ (most : Numbers) (file : List ℕ) (p : Player) (t : Tables) (strip : List ℕ) {r : Read} (read : r ≡ file-record file (p .at)) where
   found : {x : Turn} {f : Found} → r .found ≡ f → x ≡ turned most p t strip (r .next) f → x ≡ turn most file p t strip
   unfolding turn
   found e q = q ∙ ap (turned most p t strip (r .next)) (sym e) ∙ ap (λ (r : Read). turned most p t strip (r .next) (r .found)) read

@@ -1,1 +1,3 @@
 pub mod Play
+pub mod Room
+pub mod Unchanged

@@ -1,7 +1,7 @@
 -- A step file is played: "A record of a step file first meets 19, 20, 21", then it counts as the call that it makes.
 use Prim.Native.Nat.{ℕ, zero, suc}
 use mathlib.Core.Bool.{Bool, true, false, not, _&&_, _||_}
-use mathlib.Core.List.{List}
+use mathlib.Core.List.{List, [], _∷_}
 use lib.Dec.{ltb}
 use Rattle.model.specs.declared.Numbers.{Numbers}
 use Rattle.model.specs.declared.Refusal.the-variants.{ShortTable, UnknownKind, CutRecord, OutOfPlace}
@@ -9,8 +9,10 @@ use Rattle.model.specs.declared.Call.{Call}
 use Rattle.model.specs.declared.Call.the-variants.{Open, Single, RunOn}
 use Rattle.model.specs.declared.Answer.{Answer}
 use Rattle.model.specs.declared.Answer.the-variants.{Refused, Done, Ran, Opened}
+use Rattle.model.specs.Answers.{refusal-number, answer-number, answer-values}
 use Rattle.model.specs.Tests.{if}
 use Rattle.model.specs.Limits.{planned, plan-limited}
+use Rattle.model.specs.TurnedAway.{Ground, _when_, unless}
 use Rattle.tables.specs.Layout.{Tables}
 use Rattle.tables.specs.Calls.{OpenOutcome, open-outcome, called}
 use Rattle.reader.specs.declared.Found.{Found}
@@ -18,17 +20,30 @@ use Rattle.reader.specs.declared.Found.the-variants.{End, Unknown, Cut, Made}
 use Rattle.player.specs.declared.Player.{Player}
 use Rattle.player.specs.declared.Said.{Said}
 use Rattle.player.specs.declared.Said.the-variants.{Nothing, Stopped, Answered}
-use Rattle.reader.specs.Format.{record-at}
+use Rattle.reader.specs.Format.{file-record}
 
--- what a record comes to: what is said of it, where the player stands then, and everything lent
+-- document 01's number and values of what is said: of the file's end 0 and none
+abbrev pub said-number : Said → ℕ
+said-number Nothing = 0
+said-number (Stopped why) = refusal-number why
+said-number (Answered a) = answer-number a
+
+abbrev pub said-values : Said → List ℕ
+said-values Nothing = []
+said-values (Stopped why) = []
+said-values (Answered a) = answer-values a
+
+-- what a record comes to: what is said of it, with its number and values, where the player stands then, and everything lent
 pub record Turn : Type 0 where
   pub said : Said
+  pub number : ℕ
+  pub values : List ℕ
   pub player : Player
   pub tables : Tables
   pub strip : List ℕ
 
 abbrev pub turn-of : Said → Player → Tables → List ℕ → Turn
-turn-of s p t strip = record { said = s; player = p; tables = t; strip = strip }
+turn-of s p t strip = record { said = s; number = said-number s; values = said-values s; player = p; tables = t; strip = strip }
 
 -- "step before an accepted opening, or opening after one"
 abbrev pub out-of-place : Bool → Call → Bool
@@ -54,10 +69,11 @@ abbrev pub answered : Player → ℕ → OpenOutcome → Turn
 answered p next o = turn-of (Answered (o .answer)) (moved-on p next (o .answer)) (o .tables) (o .strip)
 
 -- refusal 21, then 2 for an opening that is too large, then the call's own
+abbrev pub place-refusals : Numbers → Player → Call → List Ground
+place-refusals most p a = OutOfPlace when out-of-place (p .opened) a ∷ ShortTable when too-large most a ∷ []
+
 unfoldable pub called-in-place : Numbers → Player → Call → Tables → List ℕ → OpenOutcome
-called-in-place most p a t strip =
-    if (out-of-place (p .opened) a) (open-outcome (Refused OutOfPlace) t strip)
-    (if (too-large most a) (open-outcome (Refused ShortTable) t strip) (called (p .numbers) a t strip))
+called-in-place most p a t strip = unless (λ why. open-outcome (Refused why) t strip) (place-refusals most p a) (called (p .numbers) a t strip)
 
 unfoldable pub turned : Numbers → Player → Tables → List ℕ → ℕ → Found → Turn
 turned most p t strip next End = turn-of Nothing p t strip
@@ -66,7 +82,7 @@ turned most p t strip next Cut = turn-of (Stopped CutRecord) p t strip
 turned most p t strip next (Made a) = answered p next (called-in-place most p a t strip)
 
 unfoldable pub turn : Numbers → List ℕ → Player → Tables → List ℕ → Turn
-turn most file p t strip = let r = record-at file (p .at) in turned most p t strip (r .next) (r .found)
+turn most file p t strip = let r = file-record file (p .at) in turned most p t strip (r .next) (r .found)
 
 abbrev pub goes-on : Said → Bool
 goes-on Nothing = false

@@ -1,17 +1,18 @@
 // The player: each record is read, refused with 19, 20 or 21, or made a call. The call of the library is `play_record`.
+use calls::perform;
 use model::Answer;
 use model::Call;
 use model::Numbers;
 use model::Plan;
 use model::Refusal;
-use performing::perform;
 use reader::Found;
-use reader::record_at;
-use rules::limits::plan_limited;
-use rules::limits::plan_numbers;
+use reader::read_at;
+use values::limits::plan_limited;
+use values::limits::plan_numbers;
 ghost use mathlib.Core.Path.{_≡_};
 ghost use Rattle.model.specs.declared.Call.the-variants.{Open};
-ghost use Rattle.tables.specs.Calls.{tables, open-outcome};
+ghost use Rattle.tables.specs.Calls.{open-outcome};
+ghost use Rattle.tables.specs.Lent.{moments};
 ghost use Rattle.player.specs.Play.{out-of-place, too-large, moved-on, called-in-place, turn-of, turn};
 
 // Where the player stands: its place in the step file, and the numbers of the run that was opened.
@@ -106,20 +107,14 @@ fn answer_call(
     most: Numbers,
     player: Player,
     call: Call,
-    records: &mut [u16],
-    known: &mut u16,
-    tags: &mut [u64],
-    holders: &mut [u16],
-    proposals: &mut [u64],
+    words: &mut [u16],
+    orders: &mut [u64],
     ballots: &mut [u8],
-    heard: &mut [u16],
-    logs: &mut [u64],
     strip: &mut [u8],
 ) -> Answer
     ensures { λ r.
-        let before = tables (now (records .entry)) (now (known .entry)) (now (tags .entry)) (now (holders .entry)) (now (proposals .entry)) (now (ballots .entry)) (now (heard .entry)) (now (logs .entry)) in
-        let after = tables (now (records .exit)) (now (known .exit)) (now (tags .exit)) (now (holders .exit)) (now (proposals .exit)) (now (ballots .exit)) (now (heard .exit)) (now (logs .exit)) in
-        ⌜ open-outcome r after (now (strip .exit)) ≡ called-in-place most player call before (now (strip .entry)) ⌝ }
+        let t = moments words orders ballots in
+        ⌜ open-outcome r (t .exit) (now (strip .exit)) ≡ called-in-place most player call (t .entry) (now (strip .entry)) ⌝ }
 {
     if is_out_of_place(player.opened, call) {
         return Answer::Refused(Refusal::OutOfPlace);
@@ -128,19 +123,7 @@ fn answer_call(
         return Answer::Refused(Refusal::ShortTable);
     }
     let numbers = player.numbers;
-    perform(
-        call,
-        numbers,
-        records,
-        known,
-        tags,
-        holders,
-        proposals,
-        ballots,
-        heard,
-        logs,
-        strip,
-    )
+    perform(call, numbers, words, orders, ballots, strip)
 }
 
 // One record.
@@ -148,22 +131,16 @@ pub fn play_record(
     most: Numbers,
     file: &[u8],
     player: Player,
-    records: &mut [u16],
-    known: &mut u16,
-    tags: &mut [u64],
-    holders: &mut [u16],
-    proposals: &mut [u64],
+    words: &mut [u16],
+    orders: &mut [u64],
     ballots: &mut [u8],
-    heard: &mut [u16],
-    logs: &mut [u64],
     strip: &mut [u8],
 ) -> Played
     ensures { λ r.
-        let before = tables (now (records .entry)) (now (known .entry)) (now (tags .entry)) (now (holders .entry)) (now (proposals .entry)) (now (ballots .entry)) (now (heard .entry)) (now (logs .entry)) in
-        let after = tables (now (records .exit)) (now (known .exit)) (now (tags .exit)) (now (holders .exit)) (now (proposals .exit)) (now (ballots .exit)) (now (heard .exit)) (now (logs .exit)) in
-        ⌜ turn-of (r .said) (r .player) after (now (strip .exit)) ≡ turn most (now (file .entry)) player before (now (strip .entry)) ⌝ }
+        let t = moments words orders ballots in
+        ⌜ turn-of (r .said) (r .player) (t .exit) (now (strip .exit)) ≡ turn most (now (file .entry)) player (t .entry) (now (strip .entry)) ⌝ }
 {
-    let read = record_at(file, player.at);
+    let read = read_at(file, player.at);
     let next = read.next;
     let found = read.found;
     match found {
@@ -180,20 +157,7 @@ pub fn play_record(
             player,
         },
         Found::Made(call) => {
-            let answer = answer_call(
-                most,
-                player,
-                call,
-                records,
-                known,
-                tags,
-                holders,
-                proposals,
-                ballots,
-                heard,
-                logs,
-                strip,
-            );
+            let answer = answer_call(most, player, call, words, orders, ballots, strip);
             let after = move_on(player, next, answer);
             Played {
                 said: Said::Answered(answer),

@@ -1,2 +1,3 @@
+pub mod FoundLaws
 pub mod NumberLaws
 pub mod ReaderLaws

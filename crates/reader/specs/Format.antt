@@ -6,8 +6,9 @@ use lib.Dec.{leb, ltb, eqb}
 use lib.ListN.{length, getD}
 use Rattle.model.specs.declared.ReplicaId.{ReplicaId}
 use Rattle.model.specs.declared.Plan.{Plan}
-use Rattle.model.specs.declared.Step.{Step}
-use Rattle.model.specs.declared.Step.the-variants.{Submit, Relay, Begin, Hear, Advance, Crash}
+use Rattle.model.specs.declared.Message.{Message}
+use Rattle.model.specs.declared.Act.{Act}
+use Rattle.model.specs.declared.Act.the-variants.{Submit, Relay, Begin, Hear, Advance, Crash}
 use Rattle.model.specs.declared.Call.{Call}
 use Rattle.model.specs.declared.Call.the-variants.{Open, Single, RunOn}
 use Rattle.model.specs.Tests.{if}
@@ -37,29 +38,39 @@ plan-at file i = record {
   start = number 2 file (i + 6);
 }
 
--- "4 hear: receiver, sender, sort (1 proposal, 2 state, 3 vote), slot, phase (0 for a proposal)"
-abbrev pub hear-at : List ℕ → ℕ → Step
-hear-at file i = Hear (replica file i) (replica file (i + 1)) (byte file (i + 2)) (record { 0 = byte file (i + 3) }) (record { 0 = byte file (i + 4) })
+-- "4 hear: receiver, sender, sort (1 proposal, 2 state, 3 vote), slot, phase (0 for a proposal)": what follows the receiver
+abbrev pub message-at : List ℕ → ℕ → Message
+message-at file i = record {
+  sender = replica file i;
+  sort = byte file (i + 1);
+  slot = record { 0 = byte file (i + 2) };
+  phase = record { 0 = byte file (i + 3) };
+}
 
--- the call of a kind and the body at a place: "1 submit: controller, tag (8 bytes)", "2 relay" alike, "3 begin: controller",
--- "5 advance", "6 crash", "7 run on: controller"
+-- what the body at a place tells its controller to do: "1 submit: controller, tag (8 bytes)", "2 relay" alike, "3 begin:
+-- controller", "5 advance: controller", "6 crash: controller"
+unfoldable pub act-at : ℕ → List ℕ → ℕ → Act
+act-at kind file i =
+    if (eqb kind 1) (Submit (number 8 file (i + 1)))
+    (if (eqb kind 2) (Relay (number 8 file (i + 1)))
+    (if (eqb kind 3) Begin
+    (if (eqb kind 4) (Hear (message-at file (i + 1)))
+    (if (eqb kind 5) Advance Crash))))
+
+-- the call of a kind and the body at a place: every body but an opening's begins with the acting controller. "7 run on:
+-- controller"
 unfoldable pub call-at : ℕ → List ℕ → ℕ → Call
 call-at kind file i =
     if (eqb kind 0) (Open (plan-at file i))
-    (if (eqb kind 1) (Single (Submit (replica file i) (number 8 file (i + 1))))
-    (if (eqb kind 2) (Single (Relay (replica file i) (number 8 file (i + 1))))
-    (if (eqb kind 3) (Single (Begin (replica file i)))
-    (if (eqb kind 4) (Single (hear-at file i))
-    (if (eqb kind 5) (Single (Advance (replica file i)))
-    (if (eqb kind 6) (Single (Crash (replica file i))) (RunOn (replica file i))))))))
+    (if (eqb kind 7) (RunOn (replica file i)) (Single (record { who = replica file i; act = act-at kind file i })))
 
 abbrev pub read : Found → ℕ → Read
 read found next = record { found = found; next = next }
 
 -- what stands at a place, and where reading goes on. "At 19 or 20 reading stops": the place stays, and so it does at the
 -- end, so that a further read finds the same.
-unfoldable pub record-at : List ℕ → ℕ → Read
-record-at file at =
+unfoldable pub file-record : List ℕ → ℕ → Read
+file-record file at =
     if (leb (length file) at) (read End at)
     (if (ltb 7 (byte file at)) (read Unknown at)
     (if (ltb (length file - (at + 1)) (body-length (byte file at))) (read Cut at)

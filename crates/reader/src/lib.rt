@@ -1,6 +1,8 @@
-// The reader of step files. The calls of the library are `record_at`, on a step file and a place, and `next_record`, on the
-// struct that keeps both.
+// The reader of step files. The calls of the library are `next_record`, on the struct that keeps the file and its place, and
+// `read_at`, on a file and a place; `file_record` does their work.
+use model::Act;
 use model::Call;
+use model::Message;
 use model::Numbers;
 use model::PhaseIndex;
 use model::Plan;
@@ -10,7 +12,8 @@ use model::Step;
 ghost use mathlib.Core.Path.{_≡_};
 ghost use Prim.Native.Nat.{_+_, _≤_};
 ghost use lib.ListN.{length};
-ghost use Rattle.reader.specs.Format.{number, plan-at, hear-at, body-length, call-at, record-at};
+ghost use Rattle.reader.specs.Format.{number, body-length, plan-at, message-at, act-at, call-at, file-record};
+ghost use Rattle.reader.specs.Numbered.{found-number, found-values, record-number, record-values};
 
 pub enum Found {
     End,
@@ -24,12 +27,6 @@ pub enum Found {
 pub struct Read {
     pub found: Found,
     pub next: usize,
-}
-
-fn wide(x: u8) -> u64
-    ensures { λ r. ⌜ r ≡ x ⌝ }
-{
-    x as u64
 }
 
 fn size(x: u8) -> usize
@@ -49,8 +46,8 @@ fn number_of_four(file: &[u8], i: usize) -> u64
     requires { ⌜ i + 4 ≤ length (now file) ⌝ }
     ensures { λ r. ⌜ r ≡ number 4 (now (file .entry)) i ⌝ }
 {
-    let low = wide(file[i]) + 256 * wide(file[i + 1]);
-    let high = wide(file[i + 2]) + 256 * wide(file[i + 3]);
+    let low = number_of_two(file, i) as u64;
+    let high = number_of_two(file, i + 2) as u64;
     low + 65536 * high
 }
 
@@ -98,17 +95,39 @@ fn plan_at(file: &[u8], i: usize) -> Plan
     }
 }
 
-fn hear_at(file: &[u8], i: usize) -> Step
-    requires { ⌜ i + 5 ≤ length (now file) ⌝ }
-    ensures { λ r. ⌜ r ≡ hear-at (now (file .entry)) i ⌝ }
+// What follows the receiver of a hear.
+fn message_at(file: &[u8], i: usize) -> Message
+    requires { ⌜ i + 4 ≤ length (now file) ⌝ }
+    ensures { λ r. ⌜ r ≡ message-at (now (file .entry)) i ⌝ }
 {
-    Step::Hear {
-        receiver: ReplicaId(size(file[i])),
-        sender: ReplicaId(size(file[i + 1])),
-        sort: size(file[i + 2]),
-        slot: SlotIndex(size(file[i + 3])),
-        phase: PhaseIndex(size(file[i + 4])),
+    Message {
+        sender: ReplicaId(size(file[i])),
+        sort: size(file[i + 1]),
+        slot: SlotIndex(size(file[i + 2])),
+        phase: PhaseIndex(size(file[i + 3])),
     }
+}
+
+fn act_at(kind: u8, file: &[u8], i: usize) -> Act
+    requires { ⌜ i + body-length kind ≤ length (now file) ⌝ }
+    ensures { λ r. ⌜ r ≡ act-at kind (now (file .entry)) i ⌝ }
+{
+    if kind == 1 {
+        return Act::Submit(number_of_eight(file, i + 1));
+    }
+    if kind == 2 {
+        return Act::Relay(number_of_eight(file, i + 1));
+    }
+    if kind == 3 {
+        return Act::Begin;
+    }
+    if kind == 4 {
+        return Act::Hear(message_at(file, i + 1));
+    }
+    if kind == 5 {
+        return Act::Advance;
+    }
+    Act::Crash
 }
 
 fn call_at(kind: u8, file: &[u8], i: usize) -> Call
@@ -119,30 +138,18 @@ fn call_at(kind: u8, file: &[u8], i: usize) -> Call
         return Call::Open(plan_at(file, i));
     }
     let who = ReplicaId(size(file[i]));
-    if kind == 1 {
-        return Call::Single(Step::Submit(who, number_of_eight(file, i + 1)));
+    if kind == 7 {
+        return Call::RunOn(who);
     }
-    if kind == 2 {
-        return Call::Single(Step::Relay(who, number_of_eight(file, i + 1)));
-    }
-    if kind == 3 {
-        return Call::Single(Step::Begin(who));
-    }
-    if kind == 4 {
-        return Call::Single(hear_at(file, i));
-    }
-    if kind == 5 {
-        return Call::Single(Step::Advance(who));
-    }
-    if kind == 6 {
-        return Call::Single(Step::Crash(who));
-    }
-    Call::RunOn(who)
+    let act = act_at(kind, file, i);
+    Call::Single(Step { who, act })
 }
 
 // For every file and place.
-pub fn record_at(file: &[u8], at: usize) -> Read
-    ensures { λ r. ⌜ r ≡ record-at (now (file .entry)) at ⌝ }
+pub fn file_record(file: &[u8], at: usize) -> Read
+    ensures { λ r.
+        let l = now (file .entry) in
+        ⌜ (r ≡ file-record l at) × (found-number (r .found) ≡ record-number l at) × (found-values (r .found) ≡ record-values l at) ⌝ }
 {
     if file.len() <= at {
         return Read {
@@ -180,10 +187,27 @@ pub struct Reader<'a> {
 // Reads a record and moves on. After refusal 19 or 20, and at the end, the place stays: a further read finds the same.
 pub fn next_record<'s, 'a>(reader: &'s mut Reader<'a>) -> Found
     ensures { λ r.
-        let read = record-at (now (now (reader .entry) .file)) (now (reader .entry) .at) in
-        ⌜ (r ≡ read .found) × (now (reader .exit) .file ≡ now (reader .entry) .file) × (now (reader .exit) .at ≡ read .next) ⌝ }
+        let l = now (now (reader .entry) .file) in
+        let at = now (reader .entry) .at in
+        let read = file-record l at in
+        ⌜ (r ≡ read .found) × (found-number r ≡ record-number l at) × (found-values r ≡ record-values l at)
+        × (now (reader .exit) .file ≡ now (reader .entry) .file) × (now (reader .exit) .at ≡ read .next) ⌝ }
 {
-    let read = record_at(reader.file, reader.at);
+    let read = file_record(reader.file, reader.at);
     reader.at = read.next;
     read.found
+}
+
+// One read at a place of a file, by a reader that is made there: callers with a slice and a number use this.
+pub fn read_at(file: &[u8], at: usize) -> Read
+    ensures { λ r.
+        let bytes = now (file .entry) in
+        ⌜ (r ≡ file-record bytes at) × (found-number (r .found) ≡ record-number bytes at) × (found-values (r .found) ≡ record-values bytes at) ⌝ }
+{
+    let mut reader = Reader { file, at };
+    let found = next_record(&mut reader);
+    Read {
+        found,
+        next: reader.at,
+    }
 }

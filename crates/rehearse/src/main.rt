@@ -21,27 +21,17 @@ fn rehearse(file: &[u8], report: &mut [u8]) -> usize
         phases: 8,
         room: 64,
     };
-    let mut records = [0u16; 28];
-    let mut known = 0u16;
-    let mut tags = [0u64; 64];
-    let mut holders = [0u16; 64];
-    let mut proposals = [0u64; 112];
+    let mut words = [0u16; 1997];
+    let mut orders = [0u64; 288];
     let mut ballots = [0u8; 1792];
-    let mut heard = [0u16; 1904];
-    let mut logs = [0u64; 112];
     let mut strip = [0u8; 128];
     let session = play(
         most,
         file,
         report,
-        &mut records,
-        &mut known,
-        &mut tags,
-        &mut holders,
-        &mut proposals,
+        &mut words,
+        &mut orders,
         &mut ballots,
-        &mut heard,
-        &mut logs,
         &mut strip,
     );
     session.written

@@ -43,8 +43,8 @@ bench-lines (suc c) at = let r = at c in bench-lines c at ++ bench-line c (r .cr
 -- ---- the same from the records and logs
 
 abbrev pub bench-in : Numbers → List ℕ → List ℕ → ℕ → List ℕ
-bench-in N records logs c = let k = record-at records c in bench-line c (not (eqb (k .crashed) 0)) (k .slot) (log-in N logs c)
+bench-in N words orders c = let k = record-at words c in bench-line c (not (eqb (k .crashed) 0)) (k .slot) (log-in N orders c)
 
 unfoldable pub benches-in : Numbers → List ℕ → List ℕ → ℕ → List ℕ
-benches-in N records logs zero = []
-benches-in N records logs (suc c) = benches-in N records logs c ++ bench-in N records logs c
+benches-in N words orders zero = []
+benches-in N words orders (suc c) = benches-in N words orders c ++ bench-in N words orders c

@@ -3,7 +3,7 @@ use crate::pieces::put_decimal;
 use crate::pieces::put_text;
 use model::Numbers;
 use model::Refusal;
-use rules::answers::refusal_number;
+use values::answers::refusal_number;
 ghost use mathlib.Core.Path.{_≡_};
 ghost use Rattle.report.specs.Page.{page, print};
 ghost use Rattle.report.specs.Lines.{opened-line, refused-line};

@@ -1,22 +1,12 @@
--- What a call answers beside its refusal number, for callers in C.
+-- An answer's values for callers in C: each has its place, which is 0 where the answer has none.
 use Prim.Native.Nat.{ℕ}
+use mathlib.Core.List.{List}
+use lib.ListN.{getD}
 use Rattle.model.specs.declared.Numbers.{Numbers}
-use Rattle.model.specs.declared.Answer.{Answer}
-use Rattle.model.specs.declared.Answer.the-variants.{Refused, Done, Ran, Opened}
 
--- the count of a run on
-abbrev pub advances : Answer → ℕ
-advances (Refused why) = 0
-advances Done = 0
-advances (Ran k) = k
-advances (Opened N) = 0
-
-abbrev pub no-numbers : Numbers
-no-numbers = record { n = 0; f = 0; slots = 0; phases = 0; room = 0 }
+abbrev pub value : ℕ → List ℕ → ℕ
+value i values = getD values i 0
 
 -- the run numbers of an opening
-abbrev pub numbers-of : Answer → Numbers
-numbers-of (Refused why) = no-numbers
-numbers-of Done = no-numbers
-numbers-of (Ran k) = no-numbers
-numbers-of (Opened N) = N
+abbrev pub numbers-in : List ℕ → Numbers
+numbers-in values = record { n = value 0 values; f = value 1 values; slots = value 2 values; phases = value 3 values; room = value 4 values }

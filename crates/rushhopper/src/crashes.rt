@@ -2,10 +2,9 @@
 use crash::crash_core;
 use model::Numbers;
 use model::ReplicaId;
-use rules::answers::number_of;
 use tables::Record;
+use values::answers::number_of;
 ghost use mathlib.Core.Path.{_≡_};
-ghost use Rattle.model.specs.Answers.{answer-number};
 ghost use Rattle.tables.specs.Calls.{crashed};
 
 pub struct Halted {
@@ -17,7 +16,7 @@ pub struct Halted {
 fn halt(numbers: Numbers, who: ReplicaId, lent: Record) -> Halted
     ensures { λ r.
         let o = crashed numbers (who .0) lent in
-        ⌜ (r .refusal ≡ answer-number (o .answer)) × (r .after ≡ o .after) ⌝ }
+        ⌜ (r .refusal ≡ o .number) × (r .after ≡ o .after) ⌝ }
 {
     let out = crash_core(numbers, who, lent);
     let answer = out.answer;
@@ -33,7 +32,7 @@ fn halt(numbers: Numbers, who: ReplicaId, lent: Record) -> Halted
 pub extern "C" fn rushhopper_crash(numbers: Numbers, who: ReplicaId, lent: &mut Record) -> usize
     ensures { λ r.
         let o = crashed numbers (who .0) (now (lent .entry)) in
-        ⌜ (r ≡ answer-number (o .answer)) × (now (lent .exit) ≡ o .after) ⌝ }
+        ⌜ (r ≡ o .number) × (now (lent .exit) ≡ o .after) ⌝ }
 {
     let out = halt(numbers, who, *lent);
     *lent = out.after;

@@ -1,12 +1,12 @@
--- Record after record: the tables keep their lengths, and turns follow the definitions.
+-- Record after record: the memories keep their lengths, and turns follow the definitions.
 use Prim.Native.Nat.{ℕ, zero, suc, _+_, _≤_, _<_}
 use native.Mathlib.Omega.{arith}
 use native.Mathlib.Numerals.{add-one}
-use native.Mathlib.Nat.{eq-or-lt-of-le}
+use native.Mathlib.Nat.{eq-or-lt-of-le, le-antisymm}
 use mathlib.Core.Bool.{true, false}
 use mathlib.Core.List.{List}
 use mathlib.Core.Logic.{⊎-elim}
-use mathlib.Core.Path.{_≡_, refl, sym, _∙_, ap}
+use mathlib.Core.Path.{_≡_, sym, _∙_, ap}
 use lib.ListN.{length}
 use Rattle.model.specs.declared.Numbers.{Numbers}
 use Rattle.model.specs.declared.Answer.the-variants.{Done}
@@ -18,15 +18,11 @@ use Rattle.player.specs.declared.Said.the-variants.{Answered}
 use Rattle.player.specs.Play.{Turn, turn-of, turn, goes-on, turn-on, play, begun}
 use Rattle.session.specs.Reported.{fresh}
 
--- tables of the same lengths
-pub record Alike (rs ts hs ps bs es ls st rs′ ts′ hs′ ps′ bs′ es′ ls′ st′ : List ℕ) : Type 0 where
-  pub records : length rs ≡ length rs′
-  pub tags : length ts ≡ length ts′
-  pub holders : length hs ≡ length hs′
-  pub proposals : length ps ≡ length ps′
+-- memories of the same lengths
+pub record Alike (ws os bs st ws′ os′ bs′ st′ : List ℕ) : Type 0 where
+  pub words : length ws ≡ length ws′
+  pub orders : length os ≡ length os′
   pub ballots : length bs ≡ length bs′
-  pub heard : length es ≡ length es′
-  pub logs : length ls ≡ length ls′
   pub strip : length st ≡ length st′
 
 pub play-none : (most : Numbers) (file : List ℕ) (t : Tables) (strip : List ℕ) {said : Said} {p : Player} → said ≡ Answered Done → p ≡ fresh
@@ -42,8 +38,8 @@ module _ (most : Numbers) (file : List ℕ) (x : Turn) where
   unfolding play
   play-more i q h = rw (add-one i) (h ∙ ap (turn-on most file) q)
 
-  pub play-all : {i n : ℕ} {y : Turn} → y ≡ play i most file x → i ≡ n → y ≡ play n most file x
-  play-all q e = q ∙ ap (λ (i : ℕ). play i most file x) e
+  pub play-all : {i n : ℕ} {y : Turn} → i ≤ n → n ≤ i → y ≡ play i most file x → y ≡ play n most file x
+  play-all l g q = q ∙ ap (λ (i : ℕ). play i most file x) (le-antisymm l g)
 
   -- where reading does not go on, no further turn changes anything
   pub still : (i n : ℕ) → i ≤ n → goes-on (play i most file x .said) ≡ false → play n most file x ≡ play i most file x

@@ -5,7 +5,7 @@ use native.Mathlib.Omega.{arith}
 use mathlib.Core.Bool.{true}
 use mathlib.Core.List.{List}
 use mathlib.Core.Path.{_≡_, refl, sym, _∙_}
-use lib.Dec.{leb, ltb, eqb}
+use lib.Dec.{leb, ltb}
 use lib.ListN.{length}
 use borrow.Author.Tests.{ltb-false, leb-false}
 use Rattle.model.specs.declared.Numbers.{Numbers}
@@ -14,16 +14,11 @@ use Rattle.model.specs.declared.Answer.the-variants.{Refused, Done, Ran, Opened
 use Rattle.model.proofs.Cases.{if-ind, clash}
 use Rattle.tables.specs.Layout.{Tables}
 use Rattle.reader.specs.declared.Read.{Read}
-use Rattle.reader.specs.Format.{byte, body-length, record-at}
+use Rattle.reader.specs.Format.{byte, body-length, file-record}
+use Rattle.reader.proofs.ReaderLaws.{some-body}
 use Rattle.player.specs.declared.Player.{Player}
 use Rattle.player.specs.Play.{Turn, moved-on, turned, turn, goes-on, play, begun}
 use Rattle.session.specs.Reported.{fresh, whole}
-
-body-some : (kind : ℕ) → 1 ≤ body-length kind
-unfolding body-length
-body-some kind = let P : ℕ → Type 0 = λ k. 1 ≤ k in
-    if-ind P (eqb kind 0) (λ e. omega arith) (λ e. if-ind P (eqb kind 1) (λ e. omega arith) (λ e. if-ind P (eqb kind 2) (λ e. omega arith)
-    (λ e. if-ind P (eqb kind 4) (λ e. omega arith) (λ e. omega arith))))
 
 moved-to : (p : Player) (next : ℕ) (a : Answer) → moved-on p next a .at ≡ next
 moved-to p next (Refused why) = refl
@@ -37,7 +32,7 @@ module _ (most : Numbers) (file : List ℕ) where
   Past bytes x = goes-on (x .said) ≡ true → (bytes ≤ x .player .at) × (x .player .at ≤ length file)
 
   passes : (p : Player) (t : Tables) (strip : List ℕ) → Past (p .at + 2) (turn most file p t strip)
-  unfolding turn turned record-at
+  unfolding turn turned file-record
   passes p t strip =
       let at = p .at in
       let body = body-length (byte file at) in
@@ -47,7 +42,7 @@ module _ (most : Numbers) (file : List ℕ) where
       (λ there h.
       let a = leb-false (length file) at here in
       let b = ltb-false (length file - (at + 1)) body there in
-      let c = body-some (byte file at) in
+      let c = some-body (byte file at) in
       rw moved-to (omega arith, omega arith))))
 
   module _ (t : Tables) (strip : List ℕ) where

@@ -2,39 +2,26 @@
 -- end at most 15 controllers have a line of at most 64 entries.
 use Prim.Native.Nat.{ℕ, zero, suc, _+_, _*_, _≤_, _<_, zero-le}
 use native.Mathlib.Omega.{arith}
-use native.Mathlib.Nat.{le-of-lt, le-trans}
-use mathlib.Core.Bool.{Bool, true, false, _&&_}
+use native.Mathlib.Nat.{le-trans}
+use mathlib.Core.Bool.{Bool}
 use mathlib.Core.List.{List, _++_}
-use mathlib.Core.Logic.{_⊎_, inl, inr}
-use mathlib.Core.Path.{_≡_, sym, _∙_, subst, subst₂}
-use lib.Dec.{leb, ltb, eqb}
+use mathlib.Core.Path.{sym, subst}
+use lib.Dec.{ltb, eqb}
 use lib.ListN.{length, length-append}
-use borrow.Author.Tests.{ltb-true, ltb-false, leb-false, le-leb}
-use Rattle.model.specs.declared.Numbers.{Numbers}
-use Rattle.model.specs.declared.Plan.{Plan}
-use Rattle.model.specs.declared.Round.{Round}
-use Rattle.model.specs.declared.Round.the-variants.{Idle, Exchange, State, Vote, Find}
-use Rattle.model.specs.declared.Refusal.{Refusal}
-use Rattle.model.specs.declared.Refusal.the-variants.{BadPlan, ShortTable, SpoiledRecord, NoSuchReplica, Crashed, BlankTag, AlreadyHeld, TagRoomFull, UnknownTag, Busy, LogFull, NothingPending, NotBegun, TooFewHeard, PhasesUsedUp, NoSuchMessage, NotSent, AlreadyHeard, UnknownKind, CutRecord, OutOfPlace}
-use Rattle.model.specs.declared.Call.{Call}
-use Rattle.model.specs.declared.Call.the-variants.{Open, Single, RunOn}
-use Rattle.model.specs.declared.Step.the-variants.{Advance}
-use Rattle.model.specs.declared.Effect.{Effect}
-use Rattle.model.specs.declared.Effect.the-variants.{Refuse, Hold, Send, Close, Seek, Receive, Halt}
-use Rattle.model.specs.declared.Answer.{Answer}
-use Rattle.model.specs.declared.Answer.the-variants.{Done, Ran}
+use borrow.Author.Tests.{ltb-true, not-false}
+use Rattle.tables.specs.Types.{Numbers, Plan, Refusal, BadPlan, ShortTable, SpoiledRecord, NoSuchReplica, Crashed, BlankTag, AlreadyHeld}
+use Rattle.tables.specs.Types.{TagRoomFull, UnknownTag, Busy, LogFull, NothingPending, NotBegun, TooFewHeard, PhasesUsedUp, NoSuchMessage}
+use Rattle.tables.specs.Types.{NotSent, AlreadyHeard, UnknownKind, CutRecord, OutOfPlace, Call, Open, Single, RunOn, Answer}
 use Rattle.model.specs.Answers.{refusal-number}
-use Rattle.model.specs.Limits.{limited, planned, plan-limited}
-use Rattle.model.specs.Rack.{Replica}
-use Rattle.model.specs.History.{told, most-advances}
+use Rattle.model.specs.Limits.{most-replicas, most-slots, limited, planned, plan-limited}
+use Rattle.model.specs.Rack.{round-in, Replica}
 use Rattle.model.proofs.Branches.{if-true}
-use Rattle.model.proofs.Cases.{if-ind, clash, and-true, or-false, any-false}
-use Rattle.tables.specs.Layout.{Tables, record-at, records-need}
-use Rattle.tables.specs.View.{below, round-in, view}
-use Rattle.tables.specs.Checks.{lengths, long, misplaced, spoiled, spoiled-at, any-spoiled}
-use Rattle.tables.specs.Bounds.{Bounds, bounds, is-long}
-use Rattle.tables.specs.Calls.{OpenOutcome, judge, count-on, stepped, ran-on, open-rack, called}
-use Rattle.demand.specs.Lists.{Item, tables-after}
+use Rattle.model.proofs.Cases.{if-ind, and-true, Unmet, unless-ind}
+use Rattle.tables.specs.Layout.{Tables, record-at}
+use Rattle.tables.specs.View.{only, view}
+use Rattle.tables.specs.Bounds.{Bounds, bounds}
+use Rattle.tables.specs.Sound.{Sound, stands, closed-few}
+use Rattle.tables.specs.Calls.{OpenOutcome, opening-refusals, open-rack, called}
 use Rattle.report.specs.Text.{text, decimal}
 use Rattle.report.specs.Lines.{opened-line, refused-line, entry-text, entries-text, light, bench-line, bench-lines}
 use Rattle.report.specs.Decimal.{digits-most, digits-few}
@@ -42,9 +29,10 @@ use Rattle.reader.specs.declared.Found.{Found}
 use Rattle.reader.specs.declared.Found.the-variants.{End, Unknown, Cut, Made}
 use Rattle.player.specs.declared.Player.{Player}
 use Rattle.player.specs.declared.Said.the-variants.{Answered}
-use Rattle.player.specs.Play.{Turn, out-of-place, too-large, called-in-place, turned, turn, goes-on, play, begun}
+use Rattle.player.specs.Play.{Turn, place-refusals, called-in-place, turned, turn, goes-on, play, begun}
 use Rattle.session.specs.Reported.{said-line, line-on, lines, ending, fresh, whole, report}
-use Rattle.session.specs.Played.{Safe-session, demand-3-played, opened-bounds}
+use Rattle.session.specs.Played.{opened-sound}
+use Rattle.session.specs.Unopened.{step-answer, run-answer}
 
 -- ---- the line of a record
 
@@ -90,28 +78,16 @@ module _ (k : ℕ) (h : k < 100000) where
       let c = length-append (decimal k) (text " " ++ (decimal r ++ text "\n")) in
       let d = length-append (decimal r) (text "\n") in omega arith
 
-  told-short : (good : Answer) → Short good → (e : Effect) → Short (told good e)
-  unfolding said-line
-  told-short good h (Refuse why) = refused-short why
-  told-short good h (Hold x) = h
-  told-short good h (Send so q w) = h
-  told-short good h (Close x) = h
-  told-short good h Seek = h
-  told-short good h (Receive so s q d w) = h
-  told-short good h Halt = h
-
   opening-short : (q : Plan) (t : Tables) (strip : List ℕ) → Short (open-rack q t strip .answer)
-  unfolding open-rack said-line
-  opening-short q t strip = let P : OpenOutcome → Type 0 = λ o. Short (o .answer) in
-      if-ind P (plan-limited q)
-      (λ e. if-ind P _ (λ _. opened-short (planned q) (bounds (planned q) (and-true (limited (planned q)) _ e .0))) (λ _. refused-short ShortTable))
-      (λ _. refused-short BadPlan)
+  unfolding open-rack said-line Unmet
+  opening-short q t strip = unless-ind (λ (o : OpenOutcome). Short (o .answer)) (opening-refusals q t strip) refused-short
+      (λ u. opened-short (planned q) (bounds (planned q) (and-true (limited (planned q)) _ (not-false (plan-limited q) (u .0)) .0)))
 
   called-short : (N : Numbers) (a : Call) (t : Tables) (strip : List ℕ) → Short (called N a t strip .answer)
-  unfolding called stepped ran-on said-line
+  unfolding called said-line
   called-short N (Open q) t strip = opening-short q t strip
-  called-short N (Single a) t strip = told-short Done zero-le (judge N strip a t)
-  called-short N (RunOn c) t strip = told-short (Ran (count-on N strip c (most-advances N) t)) zero-le (judge N strip (Advance c) t)
+  called-short N (Single a) t strip = step-answer Short refused-short zero-le (λ _. zero-le) N strip t a
+  called-short N (RunOn c) t strip = run-answer Short refused-short zero-le (λ _. zero-le) N strip t c
 
   turn-short : (most : Numbers) (p : Player) (t : Tables) (strip : List ℕ) (next : ℕ) (f : Found)
       → length (said-line k (turned most p t strip next f .said)) ≤ 24
@@ -119,9 +95,8 @@ module _ (k : ℕ) (h : k < 100000) where
   turn-short most p t strip next End = omega arith
   turn-short most p t strip next Unknown = refused-short UnknownKind
   turn-short most p t strip next Cut = refused-short CutRecord
-  turn-short most p t strip next (Made a) = let P : OpenOutcome → Type 0 = λ o. Short (o .answer) in
-      if-ind P (out-of-place (p .opened) a) (λ _. refused-short OutOfPlace)
-      (λ _. if-ind P (too-large most a) (λ _. refused-short ShortTable) (λ _. called-short (p .numbers) a t strip))
+  turn-short most p t strip next (Made a) =
+      unless-ind (λ (o : OpenOutcome). Short (o .answer)) (place-refusals most p a) refused-short (λ _. called-short (p .numbers) a t strip)
 
   line-short : (most : Numbers) (file : List ℕ) (x : Turn) → length (line-on k most file x) ≤ 24
   unfolding line-on turn
@@ -154,7 +129,12 @@ entries-short (suc s) entry =
 light-short : (crashed : Bool) → length (light crashed) ≤ 6
 light-short crashed = if-ind (λ (v : List ℕ). length v ≤ 6) crashed (λ _. omega arith) (λ _. omega arith)
 
-bench-short : (c : ℕ) (crashed : Bool) (closed : ℕ) (entry : ℕ → ℕ) → c < 100 → closed ≤ 64 → length (bench-line c crashed closed entry) ≤ 1361
+-- the most bytes of a replica's line
+abbrev bench-most : ℕ
+bench-most = 17 + 21 * most-slots
+
+bench-short : (c : ℕ) (crashed : Bool) (closed : ℕ) (entry : ℕ → ℕ) → c < 100 → closed ≤ most-slots
+    → length (bench-line c crashed closed entry) ≤ bench-most
 bench-short c crashed closed entry h g =
     let es = entries-text closed entry in
     let a = digits-few 1 20 c h in
@@ -166,7 +146,7 @@ bench-short c crashed closed entry h g =
     let e₃ = length-append (decimal closed) (es ++ text "\n") in
     let e₄ = length-append es (text "\n") in omega arith
 
-benches-short : (at : ℕ → Replica) → ((c : ℕ) → at c .closed ≤ 64) → (c : ℕ) → c < 100 → length (bench-lines c at) ≤ 1361 * c
+benches-short : (at : ℕ → Replica) → ((c : ℕ) → at c .closed ≤ most-slots) → (c : ℕ) → c < 100 → length (bench-lines c at) ≤ bench-most * c
 unfolding bench-lines
 benches-short at few zero h = omega arith
 benches-short at few (suc c) h =
@@ -175,52 +155,23 @@ benches-short at few (suc c) h =
     let b = bench-short c (r .crashed) (r .closed) (r .entry) (omega arith) (few c) in
     let d = length-append (bench-lines c at) (bench-line c (r .crashed) (r .closed) (r .entry)) in omega arith
 
--- ---- a replica whose record is not spoiled has closed no more slots than there are
-
-module _ (N : Numbers) where
-  slots-only : (a : Round) (s p : ℕ) → misplaced N a s p ≡ false → s ≤ N .slots
-  unfolding misplaced
-  slots-only Idle s p e = ltb-false _ _ e
-  slots-only Exchange s p e = le-of-lt (leb-false _ _ e)
-  slots-only State s p e = le-of-lt (leb-false _ _ (or-false (leb (N .slots) s) _ e .0))
-  slots-only Vote s p e = le-of-lt (leb-false _ _ (or-false (leb (N .slots) s) _ e .0))
-  slots-only Find s p e = le-of-lt (leb-false _ _ e)
-
-  record-slots : (rs : List ℕ) (c : ℕ) → records-need N ≤ length rs → c < N .n → any-spoiled N rs ≡ false → record-at rs c .slot ≤ N .slots
-  unfolding any-spoiled spoiled
-  record-slots rs c l h e =
-      let k = record-at rs c in
-      let there = le-leb (4 * c + 4) (length rs) (omega arith) in
-      let fine = subst (λ (b : Bool). (b && spoiled N k) ≡ false) there (any-false (N .n) (spoiled-at N rs) e c h) in
-      slots-only (round-in (k .round)) (k .slot) (k .phase) (or-false (ltb 4 (k .round)) _ fine .1)
-
-  closed-few : (t : Tables) → Bounds N → long N (lengths t) ≡ true → any-spoiled N (t .records) ≡ false → (c : ℕ) → view N t .at c .closed ≤ 64
-  unfolding below
-  closed-few t b l e c = if-ind (λ (r : Replica). r .closed ≤ 64) (ltb c (N .n))
-      (λ h. le-trans (record-slots (t .records) c (is-long N (lengths t) l .records) (ltb-true c (N .n) h) e) (b .slots-few)) (λ _. omega arith)
+-- a replica whose record is not spoiled has closed no more slots than there are
+slots-few : (N : Numbers) (t : Tables) → Sound N t → (c : ℕ) → view N t .at c .closed ≤ most-slots
+unfolding only
+slots-few N t fine c = let k = record-at (t .words) c in
+    if-ind (λ (r : Replica). r .closed ≤ most-slots) (ltb c (N .n))
+    (λ h. le-trans (closed-few N (k .slot) (k .phase) (round-in (k .round)) (stands N fine (ltb-true c (N .n) h))) (fine .within .slots-few)) (λ _. omega arith)
 
 -- ---- the whole report
 
 module _ (most : Numbers) (file : List ℕ) (t : Tables) (strip : List ℕ) where
-  ending-short : (k : ℕ) → length (ending (play k most file (begun fresh t strip))) ≤ 20415
-  ending-short k = if-ind (λ (v : List ℕ). length v ≤ 20415) (x .player .opened)
-      (λ e. let b = opened-bounds most file t strip k e in
-      let h = benches-short (view N (x .tables) .at) (few e b (demand-3-played most file t strip k)) (N .n) (omega arith) in omega arith) (λ _. omega arith)
-    where
-      x : Turn
-      x = play k most file (begun fresh t strip)
-
-      N : Numbers
-      N = x .player .numbers
-
-      few : {items : List Item} → x .player .opened ≡ true → Bounds N
-          → ((x .player .opened ≡ false) × (x .tables ≡ t) × (x .strip ≡ strip)) ⊎ ((q : Plan) × Safe-session most file t strip q x items)
-          → (c : ℕ) → view N (x .tables) .at c .closed ≤ 64
-      few {items} e b (inl shut) c = clash (sym (shut .0) ∙ e)
-      few {items} e b (inr (q, s)) c =
-          subst₂ (λ (M : Numbers) (u : Tables). view M u .at c .closed ≤ 64) (sym (s .numbers)) (sym (s .tables))
-          (closed-few (planned q) (tables-after (planned q) items (open-rack q t strip .tables)) (subst Bounds (s .numbers) b)
-          (s .demand .long-enough) (s .demand .unspoiled) c)
+  ending-short : (k : ℕ) → length (ending (play k most file (begun fresh t strip))) ≤ bench-most * most-replicas
+  ending-short k = let x = play k most file (begun fresh t strip) in let N = x .player .numbers in
+      if-ind (λ (v : List ℕ). length v ≤ bench-most * most-replicas) (x .player .opened)
+      (λ e.
+      let fine = opened-sound most file t strip k e in
+      let b = fine .within in
+      let h = benches-short (view N (x .tables) .at) (slots-few N (x .tables) fine) (N .n) (omega arith) in omega arith) (λ _. omega arith)
 
   pub report-fits : length file ≤ 65536 → length (report most file t strip) ≤ 1600000
   unfolding report whole

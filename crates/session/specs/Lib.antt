@@ -2,3 +2,4 @@ pub mod Ends
 pub mod Fits
 pub mod Played
 pub mod Reported
+pub mod Unopened

@@ -12,7 +12,7 @@ ghost use mathlib.Core.Path.{_≡_};
 ghost use lib.ListN.{length};
 ghost use Rattle.model.specs.declared.Answer.the-variants.{Done};
 ghost use Rattle.player.specs.declared.Said.the-variants.{Answered};
-ghost use Rattle.tables.specs.Calls.{tables};
+ghost use Rattle.tables.specs.Lent.{moments};
 ghost use Rattle.player.specs.Play.{turn-of, turn, goes-on, play as played-on, begun};
 ghost use Rattle.report.specs.Page.{page, print};
 ghost use Rattle.session.specs.Reported.{said-line, lines, fresh, whole, report as report-of};
@@ -63,38 +63,20 @@ fn play_on(
     k: usize,
     session: Session,
     report: &mut [u8],
-    records: &mut [u16],
-    known: &mut u16,
-    tags: &mut [u64],
-    holders: &mut [u16],
-    proposals: &mut [u64],
+    words: &mut [u16],
+    orders: &mut [u64],
     ballots: &mut [u8],
-    heard: &mut [u16],
-    logs: &mut [u64],
     strip: &mut [u8],
 ) -> Session
     ensures { λ r.
-        let before = tables (now (records .entry)) (now (known .entry)) (now (tags .entry)) (now (holders .entry)) (now (proposals .entry)) (now (ballots .entry)) (now (heard .entry)) (now (logs .entry)) in
-        let after = tables (now (records .exit)) (now (known .exit)) (now (tags .exit)) (now (holders .exit)) (now (proposals .exit)) (now (ballots .exit)) (now (heard .exit)) (now (logs .exit)) in
-        ⌜ (turn-of (r .last .said) (r .last .player) after (now (strip .exit)) ≡ turn most (now (file .entry)) (session .last .player) before (now (strip .entry)))
+        let t = moments words orders ballots in
+        let x = turn most (now (file .entry)) (session .last .player) (t .entry) (now (strip .entry)) in
+        ⌜ (turn-of (r .last .said) (r .last .player) (t .exit) (now (strip .exit)) ≡ x)
         × (page (now (report .exit)) (r .written) ≡ print (page (now (report .entry)) (session .written)) (said-line k (r .last .said))) ⌝ }
 {
     let last = session.last;
     let player = last.player;
-    let next = play_record(
-        most,
-        file,
-        player,
-        records,
-        known,
-        tags,
-        holders,
-        proposals,
-        ballots,
-        heard,
-        logs,
-        strip,
-    );
+    let next = play_record(most, file, player, words, orders, ballots, strip);
     let said = next.said;
     let written = put_said(k, said, report, session.written);
     Session {
@@ -131,21 +113,15 @@ fn play_records(
     most: Numbers,
     file: &[u8],
     report: &mut [u8],
-    records: &mut [u16],
-    known: &mut u16,
-    tags: &mut [u64],
-    holders: &mut [u16],
-    proposals: &mut [u64],
+    words: &mut [u16],
+    orders: &mut [u64],
     ballots: &mut [u8],
-    heard: &mut [u16],
-    logs: &mut [u64],
     strip: &mut [u8],
 ) -> Session
     ensures { λ r.
-        let before = tables (now (records .entry)) (now (known .entry)) (now (tags .entry)) (now (holders .entry)) (now (proposals .entry)) (now (ballots .entry)) (now (heard .entry)) (now (logs .entry)) in
-        let after = tables (now (records .exit)) (now (known .exit)) (now (tags .exit)) (now (holders .exit)) (now (proposals .exit)) (now (ballots .exit)) (now (heard .exit)) (now (logs .exit)) in
-        let x = begun fresh before (now (strip .entry)) in
-        ⌜ (turn-of (r .last .said) (r .last .player) after (now (strip .exit)) ≡ played-on (length (now (file .entry))) most (now (file .entry)) x)
+        let t = moments words orders ballots in
+        let x = begun fresh (t .entry) (now (strip .entry)) in
+        ⌜ (turn-of (r .last .said) (r .last .player) (t .exit) (now (strip .exit)) ≡ played-on (length (now (file .entry))) most (now (file .entry)) x)
         × (page (now (report .exit)) (r .written) ≡ print (page (now (report .entry)) 0) (lines (length (now (file .entry))) most (now (file .entry)) x)) ⌝ }
 {
     let mut session = unplayed();
@@ -162,14 +138,9 @@ fn play_records(
             i + 1,
             session,
             report,
-            records,
-            known,
-            tags,
-            holders,
-            proposals,
+            words,
+            orders,
             ballots,
-            heard,
-            logs,
             strip,
         );
         i += 1;
@@ -182,41 +153,23 @@ pub fn play(
     most: Numbers,
     file: &[u8],
     report: &mut [u8],
-    records: &mut [u16],
-    known: &mut u16,
-    tags: &mut [u64],
-    holders: &mut [u16],
-    proposals: &mut [u64],
+    words: &mut [u16],
+    orders: &mut [u64],
     ballots: &mut [u8],
-    heard: &mut [u16],
-    logs: &mut [u64],
     strip: &mut [u8],
 ) -> Session
     ensures { λ r.
-        let before = tables (now (records .entry)) (now (known .entry)) (now (tags .entry)) (now (holders .entry)) (now (proposals .entry)) (now (ballots .entry)) (now (heard .entry)) (now (logs .entry)) in
-        let after = tables (now (records .exit)) (now (known .exit)) (now (tags .exit)) (now (holders .exit)) (now (proposals .exit)) (now (ballots .exit)) (now (heard .exit)) (now (logs .exit)) in
-        ⌜ (turn-of (r .last .said) (r .last .player) after (now (strip .exit)) ≡ whole most (now (file .entry)) before (now (strip .entry)))
-        × (page (now (report .exit)) (r .written) ≡ print (page (now (report .entry)) 0) (report-of most (now (file .entry)) before (now (strip .entry)))) ⌝ }
+        let t = moments words orders ballots in
+        let text = report-of most (now (file .entry)) (t .entry) (now (strip .entry)) in
+        ⌜ (turn-of (r .last .said) (r .last .player) (t .exit) (now (strip .exit)) ≡ whole most (now (file .entry)) (t .entry) (now (strip .entry)))
+        × (page (now (report .exit)) (r .written) ≡ print (page (now (report .entry)) 0) text) ⌝ }
 {
-    let session = play_records(
-        most,
-        file,
-        report,
-        records,
-        known,
-        tags,
-        holders,
-        proposals,
-        ballots,
-        heard,
-        logs,
-        strip,
-    );
+    let session = play_records(most, file, report, words, orders, ballots, strip);
     let last = session.last;
     let player = last.player;
     if player.opened {
         let numbers = player.numbers;
-        let written = put_benches(numbers, records, logs, report, session.written);
+        let written = put_benches(numbers, words, orders, report, session.written);
         return Session { last, written };
     }
     session

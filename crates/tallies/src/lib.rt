@@ -2,17 +2,18 @@
 use messages::words::heard_word;
 use model::Numbers;
 use model::Sort;
-use rules::messages::is_sent;
-use rules::messages::proposes;
-use rules::messages::says;
-use rules::messages::tag_of;
+use values::one_if;
+use values::words::is_sent;
+use values::words::proposes;
+use values::words::says;
+use values::words::tag_of;
 ghost use mathlib.Core.Path.{_≡_};
 ghost use Prim.Native.Nat.{_≤_};
 ghost use Rattle.model.specs.declared.Sort.the-variants.{Proposals};
 ghost use Rattle.model.specs.declared.Word.the-variants.{Tag};
-ghost use Rattle.model.specs.Tests.{bit};
+ghost use Rattle.model.specs.Limits.{most-replicas};
 ghost use Rattle.model.specs.Rules.{tally, majority-tag};
-ghost use Rattle.tallies.specs.Seat.{SeatIn, ears};
+ghost use Rattle.tallies.specs.Heard.{InPhase, heard-by};
 ghost use Rattle.tallies.specs.Counts.{Counted, backed, Leading};
 
 // Of the messages heard: all, those that say 0, those that say 1.
@@ -28,15 +29,6 @@ struct Lead {
     by: usize,
 }
 
-fn one(b: bool) -> usize
-    ensures { λ r. ⌜ r ≡ bit b ⌝ }
-{
-    if b {
-        return 1;
-    }
-    0
-}
-
 // All three are counted in one pass.
 pub fn count_heard(
     numbers: Numbers,
@@ -44,12 +36,12 @@ pub fn count_heard(
     sort: Sort,
     slot: usize,
     phase: usize,
-    proposals: &[u64],
+    words: &[u16],
+    orders: &[u64],
     ballots: &[u8],
-    heard: &[u16],
 ) -> Count
-    requires { ⌜ SeatIn numbers who sort slot phase (now proposals) (now ballots) (now heard) ⌝ }
-    ensures { λ r. ⌜ Counted numbers (ears numbers who slot phase (now (proposals .entry)) (now (ballots .entry)) (now (heard .entry))) sort phase r ⌝ }
+    requires { ⌜ InPhase numbers who sort slot phase (now words) (now orders) (now ballots) ⌝ }
+    ensures { λ r. ⌜ Counted numbers (heard-by numbers who slot phase (now (words .entry)) (now (orders .entry)) (now (ballots .entry))) sort phase r ⌝ }
 {
     let n = numbers.n;
     let mut all = 0;
@@ -57,20 +49,10 @@ pub fn count_heard(
     let mut ones = 0;
     let mut i = 0;
     while i < n {
-        let word = heard_word(
-            numbers,
-            who,
-            sort,
-            slot,
-            phase,
-            i,
-            proposals,
-            ballots,
-            heard,
-        );
-        all += one(is_sent(word));
-        zeros += one(says(false, word));
-        ones += one(says(true, word));
+        let word = heard_word(numbers, who, sort, slot, phase, i, words, orders, ballots);
+        all += one_if(is_sent(word));
+        zeros += one_if(says(false, word));
+        ones += one_if(says(true, word));
         i += 1;
     }
     Count { all, zeros, ones }
@@ -82,12 +64,12 @@ fn tag_tally(
     who: usize,
     slot: usize,
     tag: u64,
-    proposals: &[u64],
+    words: &[u16],
+    orders: &[u64],
     ballots: &[u8],
-    heard: &[u16],
 ) -> usize
-    requires { ⌜ SeatIn numbers who Proposals slot 0 (now proposals) (now ballots) (now heard) ⌝ }
-    ensures { λ r. ⌜ r ≡ tally numbers (ears numbers who slot 0 (now (proposals .entry)) (now (ballots .entry)) (now (heard .entry))) Proposals 0 (Tag tag) ⌝ }
+    requires { ⌜ InPhase numbers who Proposals slot 0 (now words) (now orders) (now ballots) ⌝ }
+    ensures { λ r. ⌜ r ≡ tally numbers (heard-by numbers who slot 0 (now (words .entry)) (now (orders .entry)) (now (ballots .entry))) Proposals 0 (Tag tag) ⌝ }
 {
     let n = numbers.n;
     let mut total = 0;
@@ -100,11 +82,11 @@ fn tag_tally(
             slot,
             0,
             i,
-            proposals,
+            words,
+            orders,
             ballots,
-            heard,
         );
-        total += one(proposes(tag, word));
+        total += one_if(proposes(tag, word));
         i += 1;
     }
     total
@@ -112,7 +94,7 @@ fn tag_tally(
 
 // A tag against the leading one.
 fn back(lead: Lead, x: u64) -> Lead
-    requires { ⌜ lead .by ≤ 15 ⌝ }
+    requires { ⌜ lead .by ≤ most-replicas ⌝ }
     ensures { λ r. ⌜ r ≡ backed lead x ⌝ }
 {
     if lead.by == 0 {
@@ -136,12 +118,12 @@ fn leading_tag(
     numbers: Numbers,
     who: usize,
     slot: usize,
-    proposals: &[u64],
+    words: &[u16],
+    orders: &[u64],
     ballots: &[u8],
-    heard: &[u16],
 ) -> u64
-    requires { ⌜ SeatIn numbers who Proposals slot 0 (now proposals) (now ballots) (now heard) ⌝ }
-    ensures { λ r. ⌜ Leading numbers (ears numbers who slot 0 (now (proposals .entry)) (now (ballots .entry)) (now (heard .entry))) r ⌝ }
+    requires { ⌜ InPhase numbers who Proposals slot 0 (now words) (now orders) (now ballots) ⌝ }
+    ensures { λ r. ⌜ Leading numbers (heard-by numbers who slot 0 (now (words .entry)) (now (orders .entry)) (now (ballots .entry))) r ⌝ }
 {
     let n = numbers.n;
     let mut lead = Lead { tag: 0, by: 0 };
@@ -154,9 +136,9 @@ fn leading_tag(
             slot,
             0,
             i,
-            proposals,
+            words,
+            orders,
             ballots,
-            heard,
         );
         lead = back(lead, tag_of(word));
         i += 1;
@@ -169,15 +151,15 @@ pub fn majority_tag(
     numbers: Numbers,
     who: usize,
     slot: usize,
-    proposals: &[u64],
+    words: &[u16],
+    orders: &[u64],
     ballots: &[u8],
-    heard: &[u16],
 ) -> u64
-    requires { ⌜ SeatIn numbers who Proposals slot 0 (now proposals) (now ballots) (now heard) ⌝ }
-    ensures { λ r. ⌜ r ≡ majority-tag numbers (ears numbers who slot 0 (now (proposals .entry)) (now (ballots .entry)) (now (heard .entry))) ⌝ }
+    requires { ⌜ InPhase numbers who Proposals slot 0 (now words) (now orders) (now ballots) ⌝ }
+    ensures { λ r. ⌜ r ≡ majority-tag numbers (heard-by numbers who slot 0 (now (words .entry)) (now (orders .entry)) (now (ballots .entry))) ⌝ }
 {
-    let tag = leading_tag(numbers, who, slot, proposals, ballots, heard);
-    let votes = tag_tally(numbers, who, slot, tag, proposals, ballots, heard);
+    let tag = leading_tag(numbers, who, slot, words, orders, ballots);
+    let votes = tag_tally(numbers, who, slot, tag, words, orders, ballots);
     if numbers.n / 2 + 1 <= votes {
         return tag;
     }

@@ -4,17 +4,13 @@ use borrow.Author.Needs.{needs}
 use Rattle.orders.proofs.pending.waits_here.Statement.{statement}
 use Rattle.orders.proofs.pending.waits_here.Tie as tie
 
-has-bit-requires : tie.Need-has-bit-requires
-has-bit-requires c κs = search needs
-
 returns : tie.Need-returns
 returns c = rw (told (c .before .has-bit .ensures) (not-true _ (c .if1 .taken)))
 
-is-logged-requires : tie.Need-is-logged-requires
-is-logged-requires c κs = search needs
-
 returns-2 : tie.Need-returns-2
-returns-2 c = rw (told (c .before .before .has-bit .ensures) (not-false _ (c .before .if1 .left)), c .is-logged .ensures)
+returns-2 c =
+    let after-has-bit : tie.After-has-bit = search in
+    rw (told (after-has-bit .has-bit .ensures) (not-false _ (c .before .if1 .left)), c .is-logged .ensures)
 
 pub waits-here-spec : {M : Type 1} → statement M
-waits-here-spec = tie.close (tie.spec has-bit-requires returns is-logged-requires returns-2)
+waits-here-spec = tie.close (tie.spec (λ c κs. search needs) returns (λ c κs. search needs) returns-2)

@@ -1,49 +1,20 @@
-use borrow.Author.Tests.{lt-ltb, le-ltb}
-use Rattle.model.specs.Rules.{require}
-use Rattle.model.proofs.Branches.{told}
-use Rattle.known.proofs.TagLaws.{in-tags, room-for}
+use Rattle.orders.proofs.RuleLaws.{submit-blank, submit-held, submit-full, submit-new, submit-known}
 use borrow.Author.Needs.{needs}
 use Rattle.orders.proofs.rule.submit_rule.Statement.{statement}
 use Rattle.orders.proofs.rule.submit_rule.Tie as tie
-
-is-blank-requires : tie.Need-is-blank-requires
-is-blank-requires c κs = search needs
-
-returns : tie.Need-returns
-unfolding require
-returns c = rw (told (c .before .is-blank .ensures) (c .if1 .taken))
-
-tag-place-requires : tie.Need-tag-place-requires
-tag-place-requires c κs = search needs
-
-held-from-requires : tie.Need-held-from-requires
-held-from-requires c κs = search needs
-
-returns-2 : tie.Need-returns-2
-unfolding require
-returns-2 c = rw (told (c .before .before .before .before .is-blank .ensures) (c .before .before .before .if1 .left), told (c .before .held-from .ensures) (c .if2 .taken))
-
-returns-3 : tie.Need-returns-3
-unfolding require
-returns-3 c = rw (told (c .before .before .before .before .before .before .before .is-blank .ensures) (c .before .before .before .before .before .before .if1 .left), told (c .before .before .before .before .held-from .ensures) (c .before .before .before .if2 .left), room-for _ _ (in-tags (c .before .before .before .before .before .before .before .before .before .before .before .pre .room)) _ (c .before .before .before .before .before .before .before .before .before .before .before .args .numbers .room) (c .before .before .before .before .before .tag-place .ensures), le-ltb _ _ (c .before .before .if3 .taken), le-ltb _ _ (c .if4 .taken))
-
-returns-4 : tie.Need-returns-4
-unfolding require
-returns-4 c = rw (told (c .before .before .before .before .before .before .before .is-blank .ensures) (c .before .before .before .before .before .before .if1 .left), told (c .before .before .before .before .held-from .ensures) (c .before .before .before .if2 .left), room-for _ _ (in-tags (c .before .before .before .before .before .before .before .before .before .before .before .pre .room)) _ (c .before .before .before .before .before .before .before .before .before .before .before .args .numbers .room) (c .before .before .before .before .before .tag-place .ensures), le-ltb _ _ (c .before .before .if3 .taken), lt-ltb _ _ (c .if4 .left))
-
-returns-5 : tie.Need-returns-5
-unfolding require
-returns-5 c = rw (told (c .before .before .before .before .before .is-blank .ensures) (c .before .before .before .before .if1 .left), told (c .before .before .held-from .ensures) (c .before .if2 .left), room-for _ _ (in-tags (c .before .before .before .before .before .before .before .before .before .pre .room)) _ (c .before .before .before .before .before .before .before .before .before .args .numbers .room) (c .before .before .before .tag-place .ensures), lt-ltb _ _ (c .if3 .left))
 
 pub submit-rule-spec : {M : Type 1} → statement M
 submit-rule-spec =
     tie.close
     (tie.spec
-    is-blank-requires
-    returns
-    tag-place-requires
-    held-from-requires
-    returns-2
-    returns-3
-    returns-4
-    returns-5)
+    (λ c κs. search needs)
+    (λ c. search submit-blank)
+    (λ c κs. search needs)
+    (λ c. search needs)
+    (λ c κs. search needs)
+    (λ c κs. search needs)
+    (λ c κs. search needs)
+    (λ c. search submit-held)
+    (λ c. search submit-full)
+    (λ c. search submit-new)
+    (λ c. search submit-known))

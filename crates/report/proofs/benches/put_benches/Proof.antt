@@ -10,31 +10,20 @@ use Rattle.report.proofs.benches.put_benches.Statement.{statement}
 use Rattle.report.proofs.benches.put_benches.Tie as tie
 
 abbrev Inv-loop : tie.InvT-loop
-Inv-loop numbers records logs report₀ at end₀ c₀ report end c = (c ≤ numbers .n) × (length report ≡ length report₀) × (page report end ≡ print (page report₀ at) (benches-in numbers records logs c))
+Inv-loop numbers words orders report₀ at end₀ c₀ report end c =
+    (c ≤ numbers .n) × (length report ≡ length report₀) × (page report end ≡ print (page report₀ at) (benches-in numbers words orders c))
 
 abbrev μ-loop : tie.MeasureT-loop
-μ-loop numbers records logs report₀ at end₀ c₀ report end c = numbers .n - c
-
-loop-holds : tie.Need-loop-holds Inv-loop μ-loop
-loop-holds c = (omega arith, refl, no-bench _ _ _ _)
-
-put-bench-requires : tie.Need-put-bench-requires Inv-loop μ-loop
-put-bench-requires c κs = search needs
-
-add-c : tie.Need-add-c Inv-loop μ-loop
-add-c c = search needs
-
-loop-less : tie.Need-loop-less Inv-loop μ-loop
-loop-less c = omega arith
+μ-loop numbers words orders report₀ at end₀ c₀ report end c = numbers .n - c
 
 loop-again : tie.Need-loop-again Inv-loop μ-loop
-loop-again c = (omega arith, c .before .before .put-bench .kept .1 .1 .1 .1 .0 ∙ c .before .before .before .before .before .before .loop .inv .1, bench-more _ _ _ _ _ (c .before .before .before .before .before .before .loop .inv .2) (c .before .before .put-bench .ensures))
-
-same-length : tie.Need-same-length Inv-loop μ-loop
-same-length c = c .before .before .loop .inv .1
-
-returns : tie.Need-returns Inv-loop μ-loop
-returns c = all-benches _ _ _ _ _ (let e : c .before .before .loop .c ≡ c .before .before .before .before .before .before .args .numbers .n = omega arith in e) (c .before .before .loop .inv .2)
+loop-again c =
+    let at-loop : tie.At-loop Inv-loop μ-loop = search in
+    let after-put-bench : tie.After-put-bench Inv-loop μ-loop = search in (
+      omega arith,
+      after-put-bench .put-bench .kept .1 .1 .1 .1 .0 ∙ at-loop .loop .inv .1,
+      bench-more _ _ _ _ _ (at-loop .loop .inv .2) (after-put-bench .put-bench .ensures),
+    )
 
 pub put-benches-spec : {M : Type 1} → statement M
 put-benches-spec =
@@ -42,10 +31,10 @@ put-benches-spec =
     (tie.spec
     Inv-loop
     μ-loop
-    loop-holds
-    put-bench-requires
-    add-c
-    loop-less
+    (λ c. (omega arith, refl, search no-bench))
+    (λ c κs. search needs)
+    (λ c. search needs)
+    (λ c. omega arith)
     loop-again
-    same-length
-    returns)
+    (λ c. search)
+    (λ c. search all-benches))

@@ -3,47 +3,29 @@ use borrow.Author.Needs.{needs}
 use Rattle.report.proofs.lines.put_opened.Statement.{statement}
 use Rattle.report.proofs.lines.put_opened.Tie as tie
 
-slice-aggregate-put-text : tie.Need-slice-aggregate-put-text
-slice-aggregate-put-text c = search needs
-
-put-text-requires : tie.Need-put-text-requires
-put-text-requires c κs = search needs
-
-put-decimal-requires : tie.Need-put-decimal-requires
-put-decimal-requires c κs = search needs
-
-slice-aggregate-put-text-2 : tie.Need-slice-aggregate-put-text-2
-slice-aggregate-put-text-2 c = search needs
-
-put-text-requires-2 : tie.Need-put-text-requires-2
-put-text-requires-2 c κs = search needs
-
-put-decimal-requires-2 : tie.Need-put-decimal-requires-2
-put-decimal-requires-2 c κs = search needs
-
-slice-aggregate-put-text-3 : tie.Need-slice-aggregate-put-text-3
-slice-aggregate-put-text-3 c = search needs
-
-put-text-requires-3 : tie.Need-put-text-requires-3
-put-text-requires-3 c κs = search needs
-
-same-length : tie.Need-same-length
-same-length c = search needs
-
 returns : tie.Need-returns
-returns c = then _ _ _ (c .before .before .before .before .before .before .before .before .before .before .before .before .before .before .before .before .before .before .before .before .put-text .ensures) (then _ _ _ (c .before .before .before .before .before .before .before .before .before .before .before .before .before .before .before .before .put-decimal .ensures) (then _ _ _ (c .before .before .before .before .before .before .before .before .before .before .before .put-text2 .ensures) (then _ _ _ (c .before .before .before .before .before .before .before .put-decimal2 .ensures) (c .before .before .put-text3 .ensures))))
+returns c =
+    let after-put-text : tie.After-put-text = search in
+    let after-put-decimal : tie.After-put-decimal = search in
+    let after-put-text2 : tie.After-put-text2 = search in
+    let after-put-decimal2 : tie.After-put-decimal2 = search in
+    let after-put-text3 : tie.After-put-text3 = search in
+    then _ _ _ (after-put-text .put-text .ensures)
+    (then _ _ _ (after-put-decimal .put-decimal .ensures)
+    (then _ _ _ (after-put-text2 .put-text2 .ensures)
+    (then _ _ _ (after-put-decimal2 .put-decimal2 .ensures) (after-put-text3 .put-text3 .ensures))))
 
 pub put-opened-spec : {M : Type 1} → statement M
 put-opened-spec =
     tie.close
     (tie.spec
-    slice-aggregate-put-text
-    put-text-requires
-    put-decimal-requires
-    slice-aggregate-put-text-2
-    put-text-requires-2
-    put-decimal-requires-2
-    slice-aggregate-put-text-3
-    put-text-requires-3
-    same-length
+    (λ c. search needs)
+    (λ c κs. search needs)
+    (λ c κs. search needs)
+    (λ c. search needs)
+    (λ c κs. search needs)
+    (λ c κs. search needs)
+    (λ c. search needs)
+    (λ c κs. search needs)
+    (λ c. search needs)
     returns)

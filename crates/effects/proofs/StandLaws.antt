@@ -1,0 +1,91 @@
+-- A record that was moved, or halted.
+use Prim.Native.Nat.{ℕ, _+_, _^_, _≤_, _<_}
+use native.Mathlib.Numerals.{add-one}
+use native.Mathlib.Omega.{arith}
+use mathlib.Core.List.{List}
+use mathlib.Core.Logic.{inr}
+use mathlib.Core.Path.{_≡_, sym, ap, _∙_, subst}
+use lib.ListN.{length, set}
+use Rattle.model.specs.declared.Numbers.{Numbers}
+use Rattle.model.specs.declared.Round.{Round}
+use Rattle.model.specs.declared.Round.the-variants.{Idle, Find}
+use Rattle.model.specs.declared.Sort.{Sort}
+use Rattle.model.specs.declared.Word.{Word}
+use Rattle.model.specs.declared.Effect.the-variants.{Send, Close}
+use Rattle.tables.specs.declared.Record.{Record}
+use Rattle.model.specs.Limits.{most-phases}
+use Rattle.model.specs.Rack.{round-number, round-of}
+use Rattle.tables.specs.Layout.{record-end, record-at, record-stored, proposal-cell, ballot-cell, heard-cell, log-cell, orders-need}
+use Rattle.tables.specs.Bounds.{Bounds}
+use Rattle.tables.specs.Addresses.{Within, phase-low, log-in-range}
+use Rattle.tables.specs.Sections.{elsewhere, record-agrees}
+use Rattle.tables.specs.Write.{word-number, proposal-stored, ballot-stored, moved, halted, entered, words-sent, write}
+use Rattle.tables.specs.Calls.{tables}
+
+-- a round by its number
+pub entered-by : (ws : List ℕ) (c : ℕ) (k : Record) (a : Round) (s p : ℕ) {number : ℕ} {ws′ : List ℕ} → number ≡ round-number a
+    → ws′ ≡ record-stored ws c (record { crashed = k .crashed; round = number; slot = s; phase = p }) → ws′ ≡ record-stored ws c (moved a s p k)
+entered-by ws c k a s p e q = q ∙ (λ i. record-stored ws c (record { crashed = k .crashed; round = e i; slot = s; phase = p }))
+
+-- a store behind a record leaves it
+record-kept : (ws : List ℕ) (c i v : ℕ) → record-end c ≤ i → record-at (set ws i v) c ≡ record-at ws c
+record-kept ws c i v h = record-agrees c (elsewhere ws i v (inr h))
+
+-- ---- by the record that was loaded
+module _ (ws : List ℕ) (c : ℕ) {k : Record} (loaded : k ≡ record-at ws c) where
+  -- it is halted
+  pub halted-by : {ws′ : List ℕ} → ws′ ≡ record-stored ws c (halted k) → ws′ ≡ record-stored ws c (halted (record-at ws c))
+  halted-by q = q ∙ ap (λ (k : Record). record-stored ws c (halted k)) loaded
+
+  -- it enters the find round
+  pub sought-by : {ws′ : List ℕ} → ws′ ≡ record-stored ws c (moved Find (k .slot) (k .phase) k)
+      → ws′ ≡ entered ws c Find (record-at ws c .slot) (record-at ws c .phase)
+  sought-by q = q ∙ ap (λ (k : Record). record-stored ws c (moved Find (k .slot) (k .phase) k)) loaded
+
+  module _ (N : Numbers) where
+    -- its slot is one of the run
+    pub slot-is : record-at ws c .slot < N .slots → k .slot < N .slots
+    slot-is h = subst (λ (k : Record). k .slot < N .slots) (sym loaded) h
+
+    pub within-is : {so : Sort} {p : ℕ} → Within N so (record-at ws c .slot) p c → Within N so (k .slot) p c
+    within-is {so} {p} w = subst (λ (k : Record). Within N so (k .slot) p c) (sym loaded) w
+
+    -- it closes its slot
+    pub closed-by : (x : ℕ) (os : List ℕ) {ws′ os′ : List ℕ} → os′ ≡ set os (log-cell N c (k .slot)) x
+        → ws′ ≡ record-stored ws c (moved Idle (k .slot + 1) (k .phase) k) → (bs : List ℕ) → tables ws′ os′ bs ≡ write N c (Close x) (tables ws os bs)
+    unfolding write
+    closed-by x os l q bs =
+        let left = q ∙ (λ i. record-stored ws c (moved Idle (add-one (loaded i .slot) i) (loaded i .phase) (loaded i))) in
+        let logged = l ∙ (λ i. set os (log-cell N c (loaded i .slot)) x) in
+        λ i. tables (left i) (logged i) bs
+
+    module _ (so : Sort) (p : ℕ) where
+      -- the mark of its message stands behind the records, so the record that is moved is still the one that was loaded
+      words-left : {ws′ marked : List ℕ} {a : Round} → c < N .n → marked ≡ set ws (heard-cell N so (k .slot) p c) (2 ^ c) → a ≡ round-of so
+          → ws′ ≡ record-stored marked c (moved a (k .slot) p k) → ws′ ≡ words-sent N c so p ws
+      words-left hc m e q =
+          let kept = record-kept ws c (heard-cell N so (record-at ws c .slot) p c) (2 ^ c) (omega arith) in
+          let same = loaded ∙ sym kept in
+          q ∙ (λ i. record-stored (m i) c (moved (e i) (k .slot) p k))
+          ∙ (λ i. record-stored (set ws (heard-cell N so (loaded i .slot) p c) (2 ^ c)) c (moved (round-of so) (loaded i .slot) p (same i)))
+
+      -- it sends
+      pub sent-by : (w : Word) (os bs : List ℕ) {ws′ os′ bs′ marked : List ℕ} {a : Round} → Within N so (record-at ws c .slot) p c
+          → (marked ≡ set ws (heard-cell N so (k .slot) p c) (2 ^ c))
+          × (os′ ≡ proposal-stored so (proposal-cell N (k .slot) c) (word-number w) os)
+          × (bs′ ≡ ballot-stored so (ballot-cell N so (k .slot) p c) (word-number w) bs)
+          → a ≡ round-of so → ws′ ≡ record-stored marked c (moved a (k .slot) p k) → tables ws′ os′ bs′ ≡ write N c (Send so p w) (tables ws os bs)
+      unfolding write
+      sent-by w os bs d m e q =
+          let left = words-left (d .sender) (m .0) e q in
+          let proposed = m .1 ∙ (λ i. proposal-stored so (proposal-cell N (loaded i .slot) c) (word-number w) os) in
+          let voted = m .2 ∙ (λ i. ballot-stored so (ballot-cell N so (loaded i .slot) p c) (word-number w) bs) in
+          λ i. tables (left i) (proposed i) (voted i)
+
+-- the cell of an entry, as it was computed, is inside its memory
+pub entry-inside : (N : Numbers) {c s i : ℕ} (os : List ℕ) → c < N .n → s < N .slots → orders-need N ≤ length os → i ≡ log-cell N c s → i < length os
+entry-inside N {c} {s} os hc hs long e = omega (arith, log-in-range N c s hc hs)
+
+-- a phase of the run fits its word
+pub phase-fits : (N : Numbers) → Bounds N → {so : Sort} {s p d : ℕ} → Within N so s p d → p ≤ most-phases
+phase-fits N b {so} {s} {p} w = let l = phase-low N so p (w .phase) in let h = b .phases-few in omega arith

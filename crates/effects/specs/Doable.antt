@@ -1,0 +1,38 @@
+-- What an effect needs of the tables to be stored: a place for each cell that it stores.
+use Prim.Native.Nat.{ℕ, _≤_, _<_}
+use mathlib.Core.List.{List}
+use lib.ListN.{length}
+use Rattle.model.specs.declared.Numbers.{Numbers}
+use Rattle.model.specs.declared.Effect.{Effect}
+use Rattle.model.specs.declared.Effect.the-variants.{Refuse, Hold, Send, Close, Seek, Receive, Halt}
+use Rattle.tables.specs.Layout.{mask-bits, Tables, known-in, record-end, record-at, words-need, orders-need, ballots-need}
+use Rattle.tables.specs.Bounds.{Bounds}
+use Rattle.tables.specs.Addresses.{Within}
+use Rattle.messages.specs.Reach.{Fitting}
+use Rattle.known.specs.Room.{Storable}
+
+-- the record of replica c is there
+pub record RecordThere (c : ℕ) (ws : List ℕ) : Type 0 where
+  pub few : c < mask-bits
+  pub there : record-end c ≤ length ws
+
+-- replica c acts in memories as long as the run needs
+pub record Ready (N : Numbers) (c : ℕ) (t : Tables) : Type 0 where
+  pub bounds : Bounds N
+  pub who : c < N .n
+  pub known : known-in (t .words) ≤ N .room
+  pub words : words-need N ≤ length (t .words)
+  pub orders : orders-need N ≤ length (t .orders)
+  pub ballots : ballots-need N ≤ length (t .ballots)
+
+abbrev pub slot-of : ℕ → Tables → ℕ
+slot-of c t = record-at (t .words) c .slot
+
+abbrev pub Doable : Numbers → ℕ → Effect → Tables → Type 0
+Doable N c (Refuse why) t = Unit {0}
+Doable N c (Hold x) t = Ready N c t × Storable N x (known-in (t .words)) (t .orders)
+Doable N c (Send so p w) t = Ready N c t × Within N so (slot-of c t) p c × Fitting so w
+Doable N c (Close x) t = Ready N c t × (slot-of c t < N .slots)
+Doable N c Seek t = Ready N c t
+Doable N c (Receive so s p d w) t = Ready N c t × Within N so s p d
+Doable N c Halt t = RecordThere c (t .words)

@@ -1,0 +1,64 @@
+// A replica's record, after it moved or halted; and its log.
+use cells::records::load;
+use cells::records::store;
+use layout::log_place;
+use model::Numbers;
+use model::Round;
+use tables::Record;
+ghost use mathlib.Core.Path.{_≡_};
+ghost use Prim.Native.Nat.{_<_, _≤_};
+ghost use lib.ListN.{length, set};
+ghost use Rattle.model.specs.Rack.{round-number};
+ghost use Rattle.tables.specs.Layout.{record-at, record-stored, log-cell, orders-need};
+ghost use Rattle.tables.specs.Bounds.{Bounds};
+ghost use Rattle.tables.specs.Write.{moved, halted};
+ghost use Rattle.effects.specs.Doable.{RecordThere};
+
+fn round_number(round: Round) -> u16
+    ensures { λ r. ⌜ r ≡ round-number round ⌝ }
+{
+    match round {
+        Round::Idle => 0,
+        Round::Exchange => 1,
+        Round::State => 2,
+        Round::Vote => 3,
+        Round::Find => 4,
+    }
+}
+
+// A record that was loaded already is stored with another round, slot and phase.
+pub fn enter(who: usize, k: Record, round: Round, slot: u16, phase: u16, words: &mut [u16])
+    requires { ⌜ RecordThere who (now words) ⌝ }
+    ensures { λ _. ⌜ now (words .exit) ≡ record-stored (now (words .entry)) who (moved round slot phase k) ⌝ }
+{
+    let number = round_number(round);
+    let next = Record {
+        crashed: k.crashed,
+        round: number,
+        slot,
+        phase,
+    };
+    store(words, who, next);
+}
+
+pub fn halt(who: usize, words: &mut [u16])
+    requires { ⌜ RecordThere who (now words) ⌝ }
+    ensures { λ _. ⌜ now (words .exit) ≡ record-stored (now (words .entry)) who (halted (record-at (now (words .entry)) who)) ⌝ }
+{
+    let k = load(words, who);
+    let next = Record {
+        crashed: 1,
+        round: k.round,
+        slot: k.slot,
+        phase: k.phase,
+    };
+    store(words, who, next);
+}
+
+pub fn log_entry(numbers: Numbers, who: usize, slot: usize, x: u64, orders: &mut [u64])
+    requires { ⌜ (Bounds numbers) × (who < numbers .n) × (slot < numbers .slots) × (orders-need numbers ≤ length (now orders)) ⌝ }
+    ensures { λ _. ⌜ now (orders .exit) ≡ set (now (orders .entry)) (log-cell numbers who slot) x ⌝ }
+{
+    let at = log_place(numbers, who, slot);
+    orders[at] = x;
+}

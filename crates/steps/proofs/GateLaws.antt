@@ -1,0 +1,160 @@
+-- What `judge` asks first is what the code asks first; and what is known behind it.
+use Prim.Native.Nat.{ℕ, _≤_, _<_, _*_}
+use mathlib.Core.Bool.{Bool, true, false, not, _&&_, _||_, or-self, or-false as or-no}
+use mathlib.Core.List.{List, [], _∷_}
+use mathlib.Core.Path.{_≡_, refl, sym, _∙_, ap}
+use lib.Dec.{leb, ltb, eqb}
+use lib.ListN.{length}
+use borrow.Author.Tests.{leb-false, ltb-false}
+use Rattle.model.specs.declared.Numbers.{Numbers}
+use Rattle.model.specs.declared.ReplicaId.{ReplicaId}
+use Rattle.model.specs.declared.Refusal.{Refusal}
+use Rattle.model.specs.declared.Refusal.the-variants.{ShortTable, SpoiledRecord, NoSuchReplica, Crashed}
+use Rattle.model.specs.declared.Effect.{Effect}
+use Rattle.model.specs.declared.Effect.the-variants.{Refuse, Halt}
+use Rattle.model.specs.declared.Act.{Act}
+use Rattle.model.specs.declared.Act.the-variants.{Submit, Relay, Begin, Hear, Advance, Crash}
+use Rattle.model.specs.declared.Step.{Step}
+use Rattle.tables.specs.declared.Record.{Record}
+use Rattle.tables.specs.declared.Lengths.{Lengths}
+use Rattle.model.specs.Tests.{if}
+use Rattle.model.specs.Limits.{limited}
+use Rattle.model.specs.Rack.{Replica}
+use Rattle.model.specs.TurnedAway.{Ground, unless, settle}
+use Rattle.model.specs.Rules.{is-crash, own-rule}
+use Rattle.model.proofs.Cases.{clash, never, or-false, Unmet}
+use Rattle.tables.specs.Layout.{Tables, known-in, record-end, record-at}
+use Rattle.tables.specs.View.{replica-at, view}
+use Rattle.tables.specs.Checks.{lengths, long, spoiled-at, any-spoiled}
+use Rattle.tables.specs.Sound.{sound, own-view}
+use Rattle.tables.specs.Calls.{judge}
+use Rattle.refusals.specs.declared.Vetted.{Vetted}
+use Rattle.refusals.specs.declared.Vetted.the-variants.{Refused, Passed}
+use Rattle.refusals.specs.Vet.{first-asked, vetted}
+use Rattle.steps.specs.Admitted.{other, crash-judged, Admitted}
+
+-- ---- one list of refusals, read as what is vetted and as an effect
+
+abbrev behind : Effect → Vetted → Effect
+behind e (Refused why) = Refuse why
+behind e (Passed k) = e
+
+behind-unless : (e : Effect) (k : Record) (gs : List Ground) → behind e (unless Refused gs (Passed k)) ≡ unless Refuse gs e
+unfolding unless if
+behind-unless e k [] = refl
+behind-unless e k (g ∷ gs) = go (g .met) (behind-unless e k gs)
+  where
+    go : (b : Bool) → behind e (unless Refused gs (Passed k)) ≡ unless Refuse gs e
+        → behind e (if b (Refused (g .why)) (unless Refused gs (Passed k))) ≡ if b (Refuse (g .why)) (unless Refuse gs e)
+    go true below = refl
+    go false below = below
+
+-- where it passed, no refusal was met
+passed-unmet : (k : Record) (gs : List Ground) {j : Record} → unless Refused gs (Passed k) ≡ Passed j → Unmet gs × (k ≡ j)
+unfolding unless Unmet if
+passed-unmet k [] e = (tt, cc)
+passed-unmet k (g ∷ gs) {j} e = go (g .met) refl e (passed-unmet k gs)
+  where
+    go : (b : Bool) → g .met ≡ b → if b (Refused (g .why)) (unless Refused gs (Passed k)) ≡ Passed j
+        → (unless Refused gs (Passed k) ≡ Passed j → Unmet gs × (k ≡ j)) → ((g .met ≡ false) × Unmet gs) × (k ≡ j)
+    go true q e below = absurd (never cc)
+    go false q e below = let (u, same) = below e in ((q, u), same)
+
+-- ---- `judge` behind what is asked first
+
+module _ (N : Numbers) (strip : List ℕ) (t : Tables) (c : ReplicaId) where
+  open Numbers N using (n, room)
+
+  abbrev k : Record
+  k = record-at (t .words) (c .0)
+
+  abbrev here : Replica
+  here = replica-at N t (c .0)
+
+  -- refusals 3 and 2, and those of the rule for a replica of the view
+  abbrev checked : Effect → Effect
+  checked e =
+      if (not (limited N) || (ltb room (known-in (t .words)) || any-spoiled N (t .words))) (Refuse SpoiledRecord)
+      (if (not (long N (lengths t))) (Refuse ShortTable) (if (ltb (length strip) (N .slots * N .phases)) (Refuse ShortTable) e))
+
+  -- refusals 4 and 5 before a rule: a replica that is none of the run's is never looked at
+  admits : (own : Replica → Effect) (nobody none : Bool) → (leb n (c .0) || nobody) ≡ (leb n (c .0) || none)
+      → let v = view N t .at (c .0) in
+      if (leb n (c .0) || nobody) (Refuse NoSuchReplica) (if (v .crashed) (Refuse Crashed) (own v))
+      ≡ if (leb n (c .0) || none) (Refuse NoSuchReplica) (if (not (eqb (k .crashed) 0)) (Refuse Crashed) (own here))
+  unfolding if
+  admits own nobody none = go (leb n (c .0)) refl
+    where
+      go : (b : Bool) → leb n (c .0) ≡ b → (b || nobody) ≡ (b || none) → let v = view N t .at (c .0) in
+          if (b || nobody) (Refuse NoSuchReplica) (if (v .crashed) (Refuse Crashed) (own v))
+          ≡ if (b || none) (Refuse NoSuchReplica) (if (not (eqb (k .crashed) 0)) (Refuse Crashed) (own here))
+      go true e same = refl
+      go false e same =
+          (λ i. if (same i) (Refuse NoSuchReplica) (if (view N t .at (c .0) .crashed) (Refuse Crashed) (own (view N t .at (c .0)))))
+          ∙ ap (λ (v : Replica). if none (Refuse NoSuchReplica) (if (v .crashed) (Refuse Crashed) (own v))) (own-view N t (leb-false _ _ e))
+
+  -- a step that names no other replica
+  alone : (b : Bool) → (b || false) ≡ (b || b)
+  alone b = or-no b ∙ sym (or-self b)
+
+  abbrev ruled : Act → Replica → Effect
+  ruled a r = settle (own-rule N strip a (view N t) r)
+
+  -- a crash is judged by the record of its replica
+  pub crash-behind : judge N strip (record { who = c; act = Crash }) t ≡ crash-judged N (c .0) (t .words)
+  unfolding judge crash-judged unless if own-rule
+  crash-behind =
+      ap (λ (e : Effect). if (not (limited N) || ltb (c .0) n && spoiled-at N (t .words) (c .0)) (Refuse SpoiledRecord)
+      (if (ltb (c .0) n && ltb (length (t .words)) (record-end (c .0))) (Refuse ShortTable) e))
+      (admits (λ _. Halt) false false refl ∙ ap (λ (b : Bool). if b (Refuse NoSuchReplica) (if (not (eqb (k .crashed) 0)) (Refuse Crashed) Halt))
+      (or-no (leb n (c .0))))
+
+  pub judge-behind : (a : Act) → is-crash a ≡ false
+      → judge N strip (record { who = c; act = a }) t
+      ≡ unless Refuse (first-asked N (c .0) (other (c .0) a) (lengths t) (length strip) (t .words)) (ruled a here)
+  unfolding judge unless if
+  judge-behind (Submit x) e = ap checked (admits (ruled (Submit x)) false _ (alone (leb n (c .0))))
+  judge-behind (Relay x) e = ap checked (admits (ruled (Relay x)) false _ (alone (leb n (c .0))))
+  judge-behind Begin e = ap checked (admits (ruled Begin) false _ (alone (leb n (c .0))))
+  judge-behind (Hear m) e = ap checked (admits (ruled (Hear m)) _ _ refl)
+  judge-behind Advance e = ap checked (admits (ruled Advance) false _ (alone (leb n (c .0))))
+  judge-behind Crash e = clash (sym e)
+
+  -- ---- what the code has vetted
+
+  module _ (a : Act) (alive : is-crash a ≡ false) {v : Vetted} {d : ℕ} {l : Lengths} {s : ℕ} (names : d ≡ other (c .0) a) (measured : l ≡ lengths t)
+      (sized : s ≡ length strip) (asked : v ≡ vetted N (c .0) d l s (t .words)) where
+    seen : v ≡ vetted N (c .0) (other (c .0) a) (lengths t) (length strip) (t .words)
+    seen = asked ∙ (λ i. vetted N (c .0) (names i) (measured i) (sized i) (t .words))
+
+    judged : behind (ruled a here) v ≡ judge N strip (record { who = c; act = a }) t
+    unfolding vetted
+    judged = ap (behind (ruled a here)) seen ∙ behind-unless _ _ _ ∙ sym (judge-behind a alive)
+
+    pub judge-stops : {why : Refusal} → v ≡ Refused why → Refuse why ≡ judge N strip (record { who = c; act = a }) t
+    judge-stops e = ap (behind (ruled a here)) (sym e) ∙ judged
+
+    pub judge-rules : {j : Record} {r : Effect} → v ≡ Passed j → r ≡ ruled a here → r ≡ judge N strip (record { who = c; act = a }) t
+    judge-rules e q = q ∙ ap (behind (ruled a here)) (sym e) ∙ judged
+
+    pub admitted : {j : Record} → v ≡ Passed j → Admitted N (c .0) (other (c .0) a) t × (j ≡ k) × (N .slots * N .phases ≤ length strip)
+    unfolding vetted Unmet
+    admitted e =
+        let ((spoiled, (short, (few, (nobody, _)))), same) = passed-unmet k (first-asked N (c .0) (other (c .0) a) (lengths t) (length strip) (t .words))
+        (sym seen ∙ e) in
+        let (there, named) = or-false (leb n (c .0)) _ nobody in
+        (record { fine = sound N t (spoiled, (short, tt)); who = leb-false _ _ there; named = leb-false _ _ named }, sym same, ltb-false _ _ few)
+
+-- ---- the step that the code was handed
+
+module _ (N : Numbers) (strip : List ℕ) (t : Tables) (a : Step) where
+  pub crash-alike : {b : Bool} {r : Effect} → b ≡ is-crash (a .act) → b ≡ true → r ≡ crash-judged N (a .who .0) (t .words) → r ≡ judge N strip a t
+  crash-alike {b} {r} is crashes q = go (a .act) (sym is ∙ crashes)
+    where
+      go : (x : Act) → is-crash x ≡ true → r ≡ judge N strip (record { who = a .who; act = x }) t
+      go (Submit x) e = clash e
+      go (Relay x) e = clash e
+      go Begin e = clash e
+      go (Hear m) e = clash e
+      go Advance e = clash e
+      go Crash e = q ∙ sym (crash-behind N strip t (a .who))
