@@ -1,14 +1,14 @@
 /* Rushhopper, a proved order log: its calls for C and C++.
  *
- * The library keeps nothing. A run lives in tables that the caller owns and lends to every call, each as a pointer and a
- * count of elements; no two may overlap, and none may be null. docs/TABLES.md has the layout of each.
+ * The library keeps nothing. A run lives in three memories and a strip that the caller owns and lends to every call, each as
+ * a pointer and a count of elements; no two may overlap, and none may be null. docs/TABLES.md has the layout of each.
  *
  * A call answers 0 if it is accepted, else the number of the refusal (enum rushhopper_refusal), and a refused call leaves
  * everything lent as it was. Any number may be handed in: one that is out of range is refused.
  *
- * Part 1 declares what the library has. Part 2 is written over it, for callers who keep the tables in one struct:
+ * Part 1 declares what the library has. Part 2 is written over it, for callers who keep the memories in one struct:
  *
- *     RUSHHOPPER_DEFINE_TABLES(rack, 3, 2, 4, 4);              // 3 replicas, 2 slots, 4 phases, room for 4 tags
+ *     RUSHHOPPER_DEFINE_MEMORIES(rack, 3, 2, 4, 4);            // 3 replicas, 2 slots, 4 phases, room for 4 tags
  *     struct rushhopper_numbers plan = {3, 1, 2, 4, 4};        // n, f, slots, phases, room
  *     struct rushhopper_replica first = {0};
  *
@@ -37,9 +37,8 @@ struct rushhopper_replica { size_t number; };
 struct rushhopper_slot { size_t index; };
 struct rushhopper_phase { size_t index; };
 
-/* A replica's record: four words of the table of records, at 4 * replica. crashed is 0 for a running replica; round is an
- * enum rushhopper_round; slot is the number of slots it has closed, and so its current slot; phase counts in a state or
- * vote round. */
+/* A replica's record. crashed is 0 for a running replica; round is an enum rushhopper_round; slot is the number of slots it
+ * has closed, and so its current slot; phase counts in a state or vote round. */
 struct rushhopper_record { uint16_t crashed, round, slot, phase; };
 
 enum rushhopper_round {
@@ -50,19 +49,26 @@ enum rushhopper_round {
     RUSHHOPPER_ROUND_FIND = 4
 };
 
-/* The sort of a message, as hear takes it. */
 enum rushhopper_sort {
     RUSHHOPPER_SORT_PROPOSAL = 1,
     RUSHHOPPER_SORT_STATE = 2,
     RUSHHOPPER_SORT_VOTE = 3
 };
 
+/* A message, as rushhopper_hear_in takes it: sort is an enum rushhopper_sort; a proposal's phase is 0. */
+struct rushhopper_message {
+    size_t sort;
+    struct rushhopper_slot slot;
+    struct rushhopper_phase phase;
+    struct rushhopper_replica sender;
+};
+
 /* Document 01's refusals; its own word stands behind a name that differs. The last three occur in step files only. */
 enum rushhopper_refusal {
     RUSHHOPPER_ACCEPTED = 0,
     RUSHHOPPER_BAD_PLAN = 1,          /* opening or strip: a number beyond the limits */
-    RUSHHOPPER_SHORT_TABLE = 2,       /* a lent table shorter than the run needs */
-    RUSHHOPPER_SPOILED_RECORD = 3,    /* numbers beyond the limits, or tables that no run leaves */
+    RUSHHOPPER_SHORT_TABLE = 2,       /* a lent memory or strip shorter than the run needs */
+    RUSHHOPPER_SPOILED_RECORD = 3,    /* numbers beyond the limits, more known tags than room, or a record out of range */
     RUSHHOPPER_NO_SUCH_REPLICA = 4,   /* "no such bench": the acting replica or the sender is n or more */
     RUSHHOPPER_CRASHED = 5,           /* "dark": the acting replica has crashed */
     RUSHHOPPER_BLANK_TAG = 6,         /* tag 0 */
@@ -87,141 +93,166 @@ enum rushhopper_refusal {
 struct rushhopper_opened { size_t refusal; struct rushhopper_numbers numbers; };
 /* refusal 0: how many advances were accepted; else 0 */
 struct rushhopper_ran { size_t refusal, advances; };
-/* written: how many bytes of the report stand in the buffer (a report that is longer is cut there);
- * opened: whether (1) the file opened a run, and its numbers, else all 0 */
+/* written: how many bytes of the report stand in the buffer; opened: whether (1) the file opened a run, and its numbers,
+ * else all 0 */
 struct rushhopper_played { size_t written, opened; struct rushhopper_numbers numbers; };
 
-/* How many elements of each table a run needs; constant for constant numbers. phases is the run's: 8 where the opening
- * says 0. */
-#define RUSHHOPPER_RECORDS_LENGTH(n) ((size_t)4 * (n))
-#define RUSHHOPPER_TAGS_LENGTH(room) ((size_t)(room))
-#define RUSHHOPPER_HOLDERS_LENGTH(room) ((size_t)(room))
-#define RUSHHOPPER_PROPOSALS_LENGTH(n, slots) ((size_t)(slots) * (n))
-#define RUSHHOPPER_BALLOTS_LENGTH(n, slots, phases) ((size_t)2 * (slots) * (phases) * (n))
-#define RUSHHOPPER_HEARD_LENGTH(n, slots, phases) ((size_t)(slots) * (2 * (size_t)(phases) + 1) * (n))
-#define RUSHHOPPER_LOGS_LENGTH(n, slots) ((size_t)(n) * (slots))
-#define RUSHHOPPER_STRIP_LENGTH(slots, phases) ((size_t)(slots) * (phases))
+/* How many elements of each memory, and of the strip, a run needs; constant for constant numbers. Phases of 0 count as 8,
+ * as in an opening. The functions are the same for numbers that are known only when the program runs. */
+#define RUSHHOPPER_PHASES(phases) ((size_t)((phases) == 0 ? 8 : (phases)))
+#define RUSHHOPPER_WORDS_LENGTH(n, slots, phases, room) \
+    (4 * (size_t)(n) + 1 + (size_t)(room) + (size_t)(slots) * (2 * RUSHHOPPER_PHASES(phases) + 1) * (size_t)(n))
+#define RUSHHOPPER_ORDERS_LENGTH(n, slots, room) ((size_t)(room) + 2 * (size_t)(slots) * (size_t)(n))
+#define RUSHHOPPER_BALLOTS_LENGTH(n, slots, phases) (2 * (size_t)(slots) * RUSHHOPPER_PHASES(phases) * (size_t)(n))
+#define RUSHHOPPER_STRIP_LENGTH(slots, phases) ((size_t)(slots) * RUSHHOPPER_PHASES(phases))
 
-#define RUSHHOPPER_TABLES \
-    uint16_t *records, size_t records_length, \
-    uint16_t *known, \
-    uint64_t *tags, size_t tags_length, \
-    uint16_t *holders, size_t holders_length, \
-    uint64_t *proposals, size_t proposals_length, \
-    uint8_t *ballots, size_t ballots_length, \
-    uint16_t *heard, size_t heard_length, \
-    uint64_t *logs, size_t logs_length
+/* The bytes of all of them together. */
+#define RUSHHOPPER_BYTES(n, slots, phases, room) \
+    (sizeof(uint16_t) * RUSHHOPPER_WORDS_LENGTH(n, slots, phases, room) + \
+     sizeof(uint64_t) * RUSHHOPPER_ORDERS_LENGTH(n, slots, room) + \
+     RUSHHOPPER_BALLOTS_LENGTH(n, slots, phases) + RUSHHOPPER_STRIP_LENGTH(slots, phases))
+
+static inline size_t rushhopper_words_length(struct rushhopper_numbers numbers)
+{
+    return RUSHHOPPER_WORDS_LENGTH(numbers.n, numbers.slots, numbers.phases, numbers.room);
+}
+
+static inline size_t rushhopper_orders_length(struct rushhopper_numbers numbers)
+{
+    return RUSHHOPPER_ORDERS_LENGTH(numbers.n, numbers.slots, numbers.room);
+}
+
+static inline size_t rushhopper_ballots_length(struct rushhopper_numbers numbers)
+{
+    return RUSHHOPPER_BALLOTS_LENGTH(numbers.n, numbers.slots, numbers.phases);
+}
+
+static inline size_t rushhopper_strip_length(struct rushhopper_numbers numbers)
+{
+    return RUSHHOPPER_STRIP_LENGTH(numbers.slots, numbers.phases);
+}
+
+/* A length of buffer that no report of a file fills, for players of at most n replicas and slots.
+ *
+ * By the lengths of the lines (crates/report/specs/Lines). A record has at least two bytes, but the last may be cut after one,
+ * and at most one line. `refused K R` has 12 bytes and the digits of K: 16 for up to 9,999 records, 20 for less than a hundred
+ * million, 32 for any 64-bit K. The one accepted opening's line has at most 23 bytes, and one byte is to spare. A replica's
+ * line at the end has 17 bytes and 21 for each slot, as in `ending-short` of crates/session/specs/Fits; by that and 24 bytes to
+ * a line, the theorem `report-fits` there has 1,600,000 bytes for any file of up to 65,536. */
+#define RUSHHOPPER_MOST_RECORDS(file_length) ((size_t)(file_length) / 2 + 1)
+#define RUSHHOPPER_MOST_LINE(records) ((size_t)((records) < 10000 ? 16 : (records) < 100000000 ? 20 : 32))
+#define RUSHHOPPER_REPORT_LENGTH(file_length, n, slots) \
+    (RUSHHOPPER_MOST_RECORDS(file_length) * RUSHHOPPER_MOST_LINE(RUSHHOPPER_MOST_RECORDS(file_length)) + 24 + \
+     (size_t)(n) * (17 + 21 * (size_t)(slots)))
+
+/* The same for a player of at most the numbers `most`; no run has more than 15 replicas or 64 slots. */
+static inline size_t rushhopper_report_length(size_t file_length, struct rushhopper_numbers most)
+{
+    const size_t n = most.n < 15 ? most.n : 15, slots = most.slots < 64 ? most.slots : 64;
+
+    return RUSHHOPPER_REPORT_LENGTH(file_length, n, slots);
+}
+
+#define RUSHHOPPER_MEMORIES \
+    uint16_t *words, size_t words_length, \
+    uint64_t *orders, size_t orders_length, \
+    uint8_t *ballots, size_t ballots_length
 
 /* Fills a strip with the coins of all slots and phases, from entry start (0 to 510) of the coin table. Refusals 1, 2. */
 size_t rushhopper_fill_strip(size_t slots, size_t phases, size_t start, uint8_t *strip, size_t strip_length);
 
-/* Starts a run: all replicas running and idle at slot 0, the part of each table that the run needs cleared, the strip
+/* Starts a run: all replicas running and idle at slot 0, the part of each memory that the run needs cleared, the strip
  * filled from start. A phase limit of 0 stands for 8. Refusals 1, 2. */
 struct rushhopper_opened rushhopper_open(struct rushhopper_numbers numbers, size_t start,
-                                         RUSHHOPPER_TABLES, uint8_t *strip, size_t strip_length);
+                                         RUSHHOPPER_MEMORIES, uint8_t *strip, size_t strip_length);
 
 /* The steps. numbers are those of the opened run. Each refuses with 3, 2, 4, 5, in this order, then with its own. */
 
 /* The tag becomes known, if it wasn't, and the replica holds it. Refusals 6, 7, 8. */
 size_t rushhopper_submit(struct rushhopper_numbers numbers, struct rushhopper_replica who, uint64_t tag,
-                         RUSHHOPPER_TABLES, const uint8_t *strip, size_t strip_length);
+                         RUSHHOPPER_MEMORIES, const uint8_t *strip, size_t strip_length);
 
 /* A known tag is held by one more replica. Refusals 6, 9, 7. */
 size_t rushhopper_relay(struct rushhopper_numbers numbers, struct rushhopper_replica who, uint64_t tag,
-                        RUSHHOPPER_TABLES, const uint8_t *strip, size_t strip_length);
+                        RUSHHOPPER_MEMORIES, const uint8_t *strip, size_t strip_length);
 
 /* An idle replica proposes its smallest pending tag and enters the exchange. Refusals 10, 11, 12. */
 size_t rushhopper_begin(struct rushhopper_numbers numbers, struct rushhopper_replica who,
-                        RUSHHOPPER_TABLES, const uint8_t *strip, size_t strip_length);
+                        RUSHHOPPER_MEMORIES, const uint8_t *strip, size_t strip_length);
 
 /* The receiver hears a message that the sender has sent; of any slot and phase, and from a crashed sender too. sort is an
  * enum rushhopper_sort; a proposal's phase is 0. Refusals 16, 17, 18. */
 size_t rushhopper_hear(struct rushhopper_numbers numbers, struct rushhopper_replica receiver,
                        struct rushhopper_replica sender, size_t sort, struct rushhopper_slot slot,
-                       struct rushhopper_phase phase, RUSHHOPPER_TABLES, const uint8_t *strip, size_t strip_length);
+                       struct rushhopper_phase phase, RUSHHOPPER_MEMORIES, const uint8_t *strip, size_t strip_length);
 
 /* One step by the round that the replica is in: sends the next message, closes the slot or enters the find round.
  * Refusals 13, 14, 15. */
 size_t rushhopper_advance(struct rushhopper_numbers numbers, struct rushhopper_replica who,
-                          RUSHHOPPER_TABLES, const uint8_t *strip, size_t strip_length);
+                          RUSHHOPPER_MEMORIES, const uint8_t *strip, size_t strip_length);
 
 /* Advances until a slot is closed or the next advance is refused; refused if the first is. */
 struct rushhopper_ran rushhopper_run_on(struct rushhopper_numbers numbers, struct rushhopper_replica who,
-                                        RUSHHOPPER_TABLES, const uint8_t *strip, size_t strip_length);
+                                        RUSHHOPPER_MEMORIES, const uint8_t *strip, size_t strip_length);
 
 /* The replica stops for good. Lent the one record of the replica that it names; one whose number is n or more may be lent
  * any record. Refusals 3, 4, 5. */
 size_t rushhopper_crash(struct rushhopper_numbers numbers, struct rushhopper_replica who, struct rushhopper_record *record);
 
-/* Plays a step file on tables for at most the numbers `most` and writes its report, the rehearsal program's. An opening
- * larger than `most` gets refusal 2. */
+/* Plays a step file on memories for at most the numbers `most` and writes its report, as the rehearsal program does. An
+ * opening of more replicas, slots, phases or room than `most` gets refusal 2, and so does one that the memories or the strip
+ * are too short for; most.f is not looked at. A file may have any length: the limit of 65,536 bytes is the rehearsal
+ * program's.
+ *
+ * The report is written from the front of the buffer; what does not fit is left out, and the rest of the buffer is not
+ * touched. It is whole if `written` is below report_length. If they are equal it may be cut, and a buffer of
+ * rushhopper_report_length(file_length, most) is always long enough to tell. */
 struct rushhopper_played rushhopper_play(struct rushhopper_numbers most, const uint8_t *file, size_t file_length,
                                          uint8_t *report, size_t report_length,
-                                         RUSHHOPPER_TABLES, uint8_t *strip, size_t strip_length);
+                                         RUSHHOPPER_MEMORIES, uint8_t *strip, size_t strip_length);
 
-/* ---- Part 2: the same calls on tables kept in one struct ---- */
+/* ---- Part 2: the same calls on memories kept in one struct ---- */
 
-/* numbers are those of the run in the tables. All 0 before an opening is accepted, so that every step gets refusal 3. */
-struct rushhopper_tables {
+/* numbers are those of the run in the memories. All 0 before an opening is accepted, so that every step gets refusal 3. */
+struct rushhopper_memories {
     struct rushhopper_numbers numbers;
-    uint16_t *records;
-    size_t records_length;
-    uint16_t *known;
-    uint64_t *tags;
-    size_t tags_length;
-    uint16_t *holders;
-    size_t holders_length;
-    uint64_t *proposals;
-    size_t proposals_length;
+    uint16_t *words;
+    size_t words_length;
+    uint64_t *orders;
+    size_t orders_length;
     uint8_t *ballots;
     size_t ballots_length;
-    uint16_t *heard;
-    size_t heard_length;
-    uint64_t *logs;
-    size_t logs_length;
     uint8_t *strip;
     size_t strip_length;
 };
 
-/* Defines static tables for runs of at most these numbers (constants), and the struct `name` over them. */
-#define RUSHHOPPER_DEFINE_TABLES(name, n, slots, phases, room) \
-    static uint16_t name##_records[RUSHHOPPER_RECORDS_LENGTH(n)]; \
-    static uint16_t name##_known; \
-    static uint64_t name##_tags[RUSHHOPPER_TAGS_LENGTH(room)]; \
-    static uint16_t name##_holders[RUSHHOPPER_HOLDERS_LENGTH(room)]; \
-    static uint64_t name##_proposals[RUSHHOPPER_PROPOSALS_LENGTH(n, slots)]; \
+/* Defines static memories for runs of at most these numbers (constants), and the struct `name` over them. */
+#define RUSHHOPPER_DEFINE_MEMORIES(name, n, slots, phases, room) \
+    static uint16_t name##_words[RUSHHOPPER_WORDS_LENGTH(n, slots, phases, room)]; \
+    static uint64_t name##_orders[RUSHHOPPER_ORDERS_LENGTH(n, slots, room)]; \
     static uint8_t name##_ballots[RUSHHOPPER_BALLOTS_LENGTH(n, slots, phases)]; \
-    static uint16_t name##_heard[RUSHHOPPER_HEARD_LENGTH(n, slots, phases)]; \
-    static uint64_t name##_logs[RUSHHOPPER_LOGS_LENGTH(n, slots)]; \
     static uint8_t name##_strip[RUSHHOPPER_STRIP_LENGTH(slots, phases)]; \
-    static struct rushhopper_tables name = { \
+    static struct rushhopper_memories name = { \
         {0, 0, 0, 0, 0}, \
-        name##_records, RUSHHOPPER_RECORDS_LENGTH(n), \
-        &name##_known, \
-        name##_tags, RUSHHOPPER_TAGS_LENGTH(room), \
-        name##_holders, RUSHHOPPER_HOLDERS_LENGTH(room), \
-        name##_proposals, RUSHHOPPER_PROPOSALS_LENGTH(n, slots), \
+        name##_words, RUSHHOPPER_WORDS_LENGTH(n, slots, phases, room), \
+        name##_orders, RUSHHOPPER_ORDERS_LENGTH(n, slots, room), \
         name##_ballots, RUSHHOPPER_BALLOTS_LENGTH(n, slots, phases), \
-        name##_heard, RUSHHOPPER_HEARD_LENGTH(n, slots, phases), \
-        name##_logs, RUSHHOPPER_LOGS_LENGTH(n, slots), \
         name##_strip, RUSHHOPPER_STRIP_LENGTH(slots, phases) \
     }
 
-/* The tables as arguments of a call. */
+/* The memories and the strip as arguments of a call. */
 #define RUSHHOPPER_LENT(rack) \
-    (rack)->records, (rack)->records_length, (rack)->known, (rack)->tags, (rack)->tags_length, \
-    (rack)->holders, (rack)->holders_length, (rack)->proposals, (rack)->proposals_length, \
-    (rack)->ballots, (rack)->ballots_length, (rack)->heard, (rack)->heard_length, \
-    (rack)->logs, (rack)->logs_length, (rack)->strip, (rack)->strip_length
+    (rack)->words, (rack)->words_length, (rack)->orders, (rack)->orders_length, \
+    (rack)->ballots, (rack)->ballots_length, (rack)->strip, (rack)->strip_length
 
 /* Makes the strip of the run anew, from another start. */
-static inline size_t rushhopper_fill_strip_in(struct rushhopper_tables *rack, size_t start)
+static inline size_t rushhopper_fill_strip_in(struct rushhopper_memories *rack, size_t start)
 {
     return rushhopper_fill_strip(rack->numbers.slots, rack->numbers.phases, start, rack->strip, rack->strip_length);
 }
 
 /* A refused opening leaves the run that was there, and its numbers. */
-static inline size_t rushhopper_open_in(struct rushhopper_tables *rack, struct rushhopper_numbers plan, size_t start)
+static inline size_t rushhopper_open_in(struct rushhopper_memories *rack, struct rushhopper_numbers plan, size_t start)
 {
     const struct rushhopper_opened opened = rushhopper_open(plan, start, RUSHHOPPER_LENT(rack));
 
@@ -230,46 +261,58 @@ static inline size_t rushhopper_open_in(struct rushhopper_tables *rack, struct r
     return opened.refusal;
 }
 
-static inline size_t rushhopper_submit_in(struct rushhopper_tables *rack, struct rushhopper_replica who, uint64_t tag)
+static inline size_t rushhopper_submit_in(struct rushhopper_memories *rack, struct rushhopper_replica who, uint64_t tag)
 {
     return rushhopper_submit(rack->numbers, who, tag, RUSHHOPPER_LENT(rack));
 }
 
-static inline size_t rushhopper_relay_in(struct rushhopper_tables *rack, struct rushhopper_replica who, uint64_t tag)
+static inline size_t rushhopper_relay_in(struct rushhopper_memories *rack, struct rushhopper_replica who, uint64_t tag)
 {
     return rushhopper_relay(rack->numbers, who, tag, RUSHHOPPER_LENT(rack));
 }
 
-static inline size_t rushhopper_begin_in(struct rushhopper_tables *rack, struct rushhopper_replica who)
+static inline size_t rushhopper_begin_in(struct rushhopper_memories *rack, struct rushhopper_replica who)
 {
     return rushhopper_begin(rack->numbers, who, RUSHHOPPER_LENT(rack));
 }
 
-static inline size_t rushhopper_hear_in(struct rushhopper_tables *rack, struct rushhopper_replica receiver,
-                                        struct rushhopper_replica sender, size_t sort, struct rushhopper_slot slot,
-                                        struct rushhopper_phase phase)
+static inline size_t rushhopper_hear_in(struct rushhopper_memories *rack, struct rushhopper_replica receiver,
+                                        struct rushhopper_message message)
 {
-    return rushhopper_hear(rack->numbers, receiver, sender, sort, slot, phase, RUSHHOPPER_LENT(rack));
+    return rushhopper_hear(rack->numbers, receiver, message.sender, message.sort, message.slot, message.phase,
+                           RUSHHOPPER_LENT(rack));
 }
 
-static inline size_t rushhopper_advance_in(struct rushhopper_tables *rack, struct rushhopper_replica who)
+static inline size_t rushhopper_advance_in(struct rushhopper_memories *rack, struct rushhopper_replica who)
 {
     return rushhopper_advance(rack->numbers, who, RUSHHOPPER_LENT(rack));
 }
 
-static inline struct rushhopper_ran rushhopper_run_on_in(struct rushhopper_tables *rack, struct rushhopper_replica who)
+static inline struct rushhopper_ran rushhopper_run_on_in(struct rushhopper_memories *rack, struct rushhopper_replica who)
 {
     return rushhopper_run_on(rack->numbers, who, RUSHHOPPER_LENT(rack));
 }
 
-/* The record of a replica; of one whose record is not in the table, a blank one. */
-static inline struct rushhopper_record rushhopper_record_of(const struct rushhopper_tables *rack,
+/* How many tags are known. */
+static inline size_t rushhopper_known_of(const struct rushhopper_memories *rack)
+{
+    return rack->words_length == 0 ? 0 : rack->words[0];
+}
+
+/* Whether a replica is of the run and its record in the memory: four words behind the count of known tags. */
+static inline int rushhopper_has_record(const struct rushhopper_memories *rack, struct rushhopper_replica who)
+{
+    return who.number < rack->numbers.n && rack->words_length > 0 && who.number < (rack->words_length - 1) / 4;
+}
+
+/* The record of a replica; a blank one where there is none. */
+static inline struct rushhopper_record rushhopper_record_of(const struct rushhopper_memories *rack,
                                                             struct rushhopper_replica who)
 {
     struct rushhopper_record record = {0, 0, 0, 0};
 
-    if (who.number < rack->records_length / 4) {
-        const uint16_t *words = rack->records + 4 * who.number;
+    if (rushhopper_has_record(rack, who)) {
+        const uint16_t *words = rack->words + 1 + 4 * who.number;
         record.crashed = words[0];
         record.round = words[1];
         record.slot = words[2];
@@ -278,29 +321,34 @@ static inline struct rushhopper_record rushhopper_record_of(const struct rushhop
     return record;
 }
 
-/* The record goes to the library and back, since a pointer into the table of words is not one to a record. A replica of
- * the run whose record is not in the table gets refusal 2: there is nothing to mark. */
-static inline size_t rushhopper_crash_in(struct rushhopper_tables *rack, struct rushhopper_replica who)
+/* The entry of a replica's log, 0 for an empty slot. Counts for the closed slots, those below its record's slot; 0 where the
+ * memory has no such entry. */
+static inline uint64_t rushhopper_entry_of(const struct rushhopper_memories *rack, struct rushhopper_replica who,
+                                           struct rushhopper_slot slot)
+{
+    const size_t n = rack->numbers.n, slots = rack->numbers.slots;
+    const size_t cell = rack->numbers.room + slots * n + who.number * slots + slot.index;
+
+    return who.number < n && slot.index < slots && cell < rack->orders_length ? rack->orders[cell] : 0;
+}
+
+/* The record goes to the library and back, since a pointer into the words is not one to a record. A replica of the run whose
+ * record is not in the memory gets refusal 2: there is nothing to mark. */
+static inline size_t rushhopper_crash_in(struct rushhopper_memories *rack, struct rushhopper_replica who)
 {
     struct rushhopper_record record = rushhopper_record_of(rack, who);
     const size_t refusal = rushhopper_crash(rack->numbers, who, &record);
 
     if (refusal != RUSHHOPPER_ACCEPTED)
         return refusal;
-    if (who.number >= rack->records_length / 4)
+    if (!rushhopper_has_record(rack, who))
         return RUSHHOPPER_SHORT_TABLE;
-    rack->records[4 * who.number] = record.crashed;
+    rack->words[1 + 4 * who.number] = record.crashed;
     return RUSHHOPPER_ACCEPTED;
 }
 
-/* The log of a replica of the run (its number below n): as many entries as its record says slots, 0 for an empty one. */
-static inline const uint64_t *rushhopper_log_of(const struct rushhopper_tables *rack, struct rushhopper_replica who)
-{
-    return rack->logs + who.number * rack->numbers.slots;
-}
-
 /* A file that opens no run leaves the one that was there, and its numbers. */
-static inline struct rushhopper_played rushhopper_play_in(struct rushhopper_tables *rack, struct rushhopper_numbers most,
+static inline struct rushhopper_played rushhopper_play_in(struct rushhopper_memories *rack, struct rushhopper_numbers most,
                                                           const uint8_t *file, size_t file_length,
                                                           uint8_t *report, size_t report_length)
 {

@@ -7,8 +7,8 @@
 
 #include "rushhopper.h"
 
-/* Exactly the tables that the session's run needs: 3 replicas, 2 slots, 4 phases, room for 4 tags. */
-RUSHHOPPER_DEFINE_TABLES(rack, 3, 2, 4, 4);
+/* Exactly the memories that the session's run needs: 3 replicas, 2 slots, 4 phases, room for 4 tags. */
+RUSHHOPPER_DEFINE_MEMORIES(rack, 3, 2, 4, 4);
 
 static const struct rushhopper_replica zero = {0}, one = {1}, two = {2};
 
@@ -25,10 +25,9 @@ static void note(size_t refusal)
 /* Everything in this session is of slot 0 and phase 1; a proposal's phase is 0. */
 static size_t hear(struct rushhopper_replica receiver, struct rushhopper_replica sender, enum rushhopper_sort sort)
 {
-    const struct rushhopper_slot slot = {0};
-    const struct rushhopper_phase phase = {sort == RUSHHOPPER_SORT_PROPOSAL ? 0u : 1u};
+    const struct rushhopper_message message = {sort, {0}, {sort == RUSHHOPPER_SORT_PROPOSAL ? 0u : 1u}, sender};
 
-    return rushhopper_hear_in(&rack, receiver, sender, sort, slot, phase);
+    return rushhopper_hear_in(&rack, receiver, message);
 }
 
 static int open_run(void)
@@ -84,15 +83,15 @@ static void close_slot(void)
 static void print_bench(struct rushhopper_replica who)
 {
     const struct rushhopper_record record = rushhopper_record_of(&rack, who);
-    const uint64_t *log = rushhopper_log_of(&rack, who);
-    size_t slot;
+    struct rushhopper_slot slot;
 
     printf("bench %zu %s %u", who.number, record.crashed ? "dark" : "lit", (unsigned)record.slot);
-    for (slot = 0; slot < record.slot; slot++) {
-        if (log[slot] == 0)
+    for (slot.index = 0; slot.index < record.slot; slot.index++) {
+        const uint64_t entry = rushhopper_entry_of(&rack, who, slot);
+        if (entry == 0)
             printf(" -");
         else
-            printf(" %" PRIu64, log[slot]);
+            printf(" %" PRIu64, entry);
     }
     printf("\n");
 }

@@ -1,6 +1,6 @@
 //! Rushhopper for Rust: a safe wrapper of the proved order log's C interface (`include/rushhopper.h`).
 //!
-//! A [`Rack`] owns the tables of one run and lends them to the library at every call. A refused call changes nothing.
+//! A [`Rack`] owns the memories of one run and lends them to the library at every call. A refused call changes nothing.
 //!
 //! ```
 //! use rushhopper::{Numbers, Plan, Rack, Refusal, Replica};

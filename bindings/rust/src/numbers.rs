@@ -43,14 +43,14 @@ impl Numbers {
     /// The largest run within the limits.
     pub const LARGEST: Numbers = Numbers { n: 15, f: 7, slots: 64, phases: 32, room: 256 };
 
-    /// What the rehearsal program has tables for.
+    /// What the rehearsal program has memories for.
     pub const REHEARSAL: Numbers = Numbers { n: 7, f: 3, slots: 16, phases: 8, room: 64 };
 
     const USUAL_PHASES: usize = 8;
 
-    /// Numbers to make tables for. Those beyond the limits are cut to them: no run has them, and their tables might
+    /// Numbers to make memories for. Those beyond the limits are cut to them: no run has them, and their memories might
     /// not fit the machine.
-    pub(crate) fn of_tables(self) -> Numbers {
+    pub(crate) fn of_memories(self) -> Numbers {
         let phases = if self.phases == 0 { Numbers::USUAL_PHASES } else { self.phases };
         Numbers {
             n: self.n.min(Numbers::LARGEST.n),
@@ -59,5 +59,10 @@ impl Numbers {
             phases: phases.min(Numbers::LARGEST.phases),
             room: self.room.min(Numbers::LARGEST.room),
         }
+    }
+
+    /// Where the logs start in the orders: behind the known tags and the proposals.
+    pub(crate) fn logs_start(self) -> usize {
+        self.room + self.slots * self.n
     }
 }

@@ -1,4 +1,4 @@
-//! The library's functions as `include/rushhopper.h` declares them, and the tables that are lent to them. All that is
+//! The library's functions as `include/rushhopper.h` declares them, and the memories that are lent to them. All that is
 //! unsafe is here.
 
 use crate::numbers::{Numbers, Phase, Plan, Replica, Slot};
@@ -24,7 +24,16 @@ struct Played {
     _numbers: Numbers,
 }
 
-/// A replica's four words of the table of records.
+/// A message, its sort by number.
+#[derive(Clone, Copy)]
+pub struct Sent {
+    pub sort: usize,
+    pub slot: Slot,
+    pub phase: Phase,
+    pub sender: Replica,
+}
+
+/// A replica's record.
 #[repr(C)]
 #[derive(Clone, Copy, Default)]
 pub struct Words {
@@ -34,34 +43,27 @@ pub struct Words {
     pub phase: u16,
 }
 
-/// The lent tables, in the layout of docs/TABLES.md.
+/// The lent memories and the strip, in the layout of docs/TABLES.md.
 #[derive(Clone, Debug, PartialEq, Eq)]
-pub struct Tables {
-    records: Vec<u16>,
-    known: u16,
-    tags: Vec<u64>,
-    holders: Vec<u16>,
-    proposals: Vec<u64>,
+pub struct Memories {
+    words: Vec<u16>,
+    orders: Vec<u64>,
     ballots: Vec<u8>,
-    heard: Vec<u16>,
-    logs: Vec<u64>,
     strip: Vec<u8>,
 }
 
-/// Declares functions that are lent the tables: the arguments before them, and the kind of strip.
+/// Where the records start in the words: cell 0 is the count of known tags.
+const RECORDS: usize = 1;
+
+/// Declares functions that are lent the memories: the arguments before them, and the kind of strip.
 macro_rules! declare {
     ($(fn $name:ident($($argument:ident: $kind:ty),*; $strip:ty) -> $answer:ty;)*) => {
         extern "C" {
             $(fn $name(
                 $($argument: $kind,)*
-                records: *mut u16, records_length: usize,
-                known: *mut u16,
-                tags: *mut u64, tags_length: usize,
-                holders: *mut u16, holders_length: usize,
-                proposals: *mut u64, proposals_length: usize,
+                words: *mut u16, words_length: usize,
+                orders: *mut u64, orders_length: usize,
                 ballots: *mut u8, ballots_length: usize,
-                heard: *mut u16, heard_length: usize,
-                logs: *mut u64, logs_length: usize,
                 strip: $strip, strip_length: usize,
             ) -> $answer;)*
         }
@@ -94,42 +96,32 @@ extern "C" {
     fn rushhopper_crash(numbers: Numbers, who: Replica, record: *mut Words) -> usize;
 }
 
-/// Calls a function with its arguments and the tables.
+/// Calls a function with its arguments and the memories.
 ///
-/// Sound: every table is lent with its own length, no two overlap, and the library keeps none after the call.
+/// Sound: every memory is lent with its own length, no two overlap, and the library keeps none after the call.
 macro_rules! lend {
-    ($tables:expr, $strip:ident, $name:ident($($argument:expr),*)) => {{
-        let tables: &mut Tables = $tables;
+    ($memories:expr, $strip:ident, $name:ident($($argument:expr),*)) => {{
+        let memories: &mut Memories = $memories;
         unsafe {
             $name(
                 $($argument,)*
-                tables.records.as_mut_ptr(), tables.records.len(),
-                &mut tables.known,
-                tables.tags.as_mut_ptr(), tables.tags.len(),
-                tables.holders.as_mut_ptr(), tables.holders.len(),
-                tables.proposals.as_mut_ptr(), tables.proposals.len(),
-                tables.ballots.as_mut_ptr(), tables.ballots.len(),
-                tables.heard.as_mut_ptr(), tables.heard.len(),
-                tables.logs.as_mut_ptr(), tables.logs.len(),
-                tables.strip.$strip(), tables.strip.len(),
+                memories.words.as_mut_ptr(), memories.words.len(),
+                memories.orders.as_mut_ptr(), memories.orders.len(),
+                memories.ballots.as_mut_ptr(), memories.ballots.len(),
+                memories.strip.$strip(), memories.strip.len(),
             )
         }
     }};
 }
 
-impl Tables {
-    /// Tables for runs of at most these numbers.
-    pub fn for_runs_of(most: Numbers) -> Tables {
-        let Numbers { n, slots, phases, room, .. } = most.of_tables();
-        Tables {
-            records: vec![0; 4 * n],
-            known: 0,
-            tags: vec![0; room],
-            holders: vec![0; room],
-            proposals: vec![0; slots * n],
+impl Memories {
+    /// Memories for runs of at most these numbers.
+    pub fn for_runs_of(most: Numbers) -> Memories {
+        let numbers @ Numbers { n, slots, phases, .. } = most.of_memories();
+        Memories {
+            words: vec![0; RECORDS + 4 * n + numbers.room + slots * (2 * phases + 1) * n],
+            orders: vec![0; numbers.logs_start() + n * slots],
             ballots: vec![0; slots * 2 * phases * n],
-            heard: vec![0; slots * (2 * phases + 1) * n],
-            logs: vec![0; n * slots],
             strip: vec![0; slots * phases],
         }
     }
@@ -160,13 +152,8 @@ impl Tables {
         accepted(lend!(self, as_ptr, rushhopper_begin(numbers, who)))
     }
 
-    pub fn hear(
-        &mut self,
-        numbers: Numbers,
-        receiver: Replica,
-        sender: Replica,
-        (sort, slot, phase): (usize, Slot, Phase),
-    ) -> Result<(), Refusal> {
+    pub fn hear(&mut self, numbers: Numbers, receiver: Replica, message: Sent) -> Result<(), Refusal> {
+        let Sent { sort, slot, phase, sender } = message;
         accepted(lend!(self, as_ptr, rushhopper_hear(numbers, receiver, sender, sort, slot, phase)))
     }
 
@@ -180,11 +167,12 @@ impl Tables {
         accepted(ran.refusal).map(|()| ran.advances)
     }
 
-    /// Lends the record in the table itself. A replica that has none there is not of the run, and the call looks at no
+    /// Lends the record in the memory itself. A replica that is not of the run has none there, and the call looks at no
     /// record for it; it is lent a blank one.
     pub fn crash(&mut self, numbers: Numbers, who: Replica) -> Result<(), Refusal> {
         let mut blank = Words::default();
-        let record = match self.records.chunks_exact_mut(4).nth(who.0) {
+        let mut records = self.words[RECORDS..].chunks_exact_mut(4).take(numbers.n);
+        let record = match records.nth(who.0) {
             Some(words) => words.as_mut_ptr().cast(),
             None => &mut blank,
         };
@@ -199,14 +187,18 @@ impl Tables {
         lend!(self, as_mut_ptr, rushhopper_play(most, file.as_ptr(), file.len(), page, page_length)).written
     }
 
-    /// The record of a replica, if the table has it.
-    pub fn words(&self, replica: Replica) -> Option<Words> {
-        let words = self.records.chunks_exact(4).nth(replica.0)?;
+    pub fn known(&self) -> usize {
+        self.words[0].into()
+    }
+
+    /// The record of a replica of a run of these numbers.
+    pub fn record(&self, numbers: Numbers, replica: Replica) -> Option<Words> {
+        let words = self.words[RECORDS..].chunks_exact(4).take(numbers.n).nth(replica.0)?;
         Some(Words { crashed: words[0], round: words[1], slot: words[2], phase: words[3] })
     }
 
     /// The row of a replica's log, closed slots and others; for a replica of a run of these numbers.
     pub fn log(&self, numbers: Numbers, replica: Replica) -> &[u64] {
-        &self.logs[replica.0 * numbers.slots..][..numbers.slots]
+        &self.orders[numbers.logs_start() + replica.0 * numbers.slots..][..numbers.slots]
     }
 }

@@ -19,7 +19,7 @@ fn nothing_and_what_is_no_record() {
     assert_eq!(play(&[3, 0, 1, 0]), "refused 1 21\nrefused 2 20\n");
 }
 
-/// 17 slots of one phase would fit the tables of the rehearsal program, but it has 16.
+/// 17 slots of one phase would fit the memories of the rehearsal program, but it has 16.
 #[test]
 fn larger_openings() {
     let opening = [0, 1, 0, 17, 1, 4, 0, 0, 0];
@@ -29,11 +29,21 @@ fn larger_openings() {
     assert_eq!(play_within(beyond, &opening), play(&opening));
 }
 
-/// The shortest records, all refused: the most lines that a file can have.
+#[test]
+fn a_spare_number_is_not_looked_at() {
+    let most = Numbers { f: 0, ..Numbers::REHEARSAL };
+    assert_eq!(play_within(most, WORKED), WORKED_REPORT);
+}
+
+/// The shortest records, all refused: the most lines that a file can have. The last is cut after one byte.
 #[test]
 fn no_report_of_many_lines_is_cut() {
-    let expected: String = (1..=100_000).map(|record| format!("refused {record} 21\n")).collect();
-    assert_eq!(play(&[3, 0].repeat(100_000)), expected);
+    for whole in [0, 9, 999, 9_998, 9_999, 100_000] {
+        let lines = (1..=whole).map(|record| format!("refused {record} 21\n"));
+        let cut = format!("refused {} 20\n", whole + 1);
+        let file = [[3, 0].repeat(whole), vec![3]].concat();
+        assert_eq!(play_within(Numbers::default(), &file), lines.chain([cut]).collect::<String>());
+    }
 }
 
 #[test]

@@ -82,9 +82,19 @@ fn refused_steps_change_nothing() {
 fn a_replica_that_the_rack_does_not_have() {
     let rack = proposed();
     for replica in [Replica(3), Replica(usize::MAX)] {
-        assert_eq!(rack.record(replica), None);
+        assert_eq!((rack.record(replica), rack.entry(replica, FIRST)), (None, None));
         assert!(rack.log(replica).is_empty());
     }
+}
+
+#[test]
+fn tags_are_known_once() {
+    let mut rack = proposed();
+    assert_eq!(rack.known(), 2);
+    assert_eq!(rack.submit(Replica(1), 9), Ok(()));
+    assert_eq!(rack.known(), 2);
+    assert_eq!(rack.submit(Replica(1), 7), Ok(()));
+    assert_eq!(rack.known(), 3);
 }
 
 #[test]
@@ -108,6 +118,8 @@ fn the_find_round_waits_for_a_majority() {
     round(&mut rack, state(1), &[(0, 1), (1, 0), (2, 0)]);
     round(&mut rack, vote(1), &[(0, 1), (1, 0), (2, 0)]);
     assert_eq!(rack.log(Replica(0)), [5]);
+    assert_eq!((rack.entry(Replica(0), FIRST), rack.entry(Replica(0), Slot(1))), (Some(5), None));
+    assert_eq!(rack.entry(Replica(2), FIRST), None);
     let finding = Record { crashed: false, round: Round::Find, slot: FIRST };
     assert_eq!((rack.record(Replica(2)), rack.log(Replica(2))), (Some(finding), &[][..]));
     assert_eq!(rack.advance(Replica(2)), Err(Refusal::TooFewHeard));
