@@ -1,5 +1,5 @@
-/* Tries include/rushhopper.h on the library, as C99 and as C++: lengths, words, and what the calls on a struct keep. Writes
- * each expectation that fails, and ends with 1 if any did.
+/* Tries include/rushhopper.h on the library, as C99 and as C++: lengths, readers, words, and what the calls on a struct keep.
+ * Writes each expectation that fails, and ends with 1 if any did.
  *
  *     gcc -std=c99 -Wall -Wextra -pedantic -I include tests/header/header.c FOLDER/librushhopper.a -o header
  */
@@ -10,11 +10,11 @@
 
 #define EXPECT(what) expect((what), #what, __LINE__)
 
-RUSHHOPPER_DEFINE_TABLES(smallest, 1, 1, 1, 1);
-RUSHHOPPER_DEFINE_TABLES(rack, 3, 2, 8, 4);
-RUSHHOPPER_DEFINE_TABLES(largest, 15, 64, 32, 256);
+RUSHHOPPER_DEFINE_MEMORIES(smallest, 1, 1, 1, 1);
+RUSHHOPPER_DEFINE_MEMORIES(rack, 3, 2, 0, 4);
+RUSHHOPPER_DEFINE_MEMORIES(largest, 15, 64, 32, 256);
 
-static const struct rushhopper_numbers three = {3, 1, 2, 0, 4};
+static const struct rushhopper_numbers alone = {1, 0, 1, 1, 1}, three = {3, 1, 2, 0, 4}, most = {15, 7, 64, 32, 256};
 static const struct rushhopper_replica zero = {0}, one = {1}, beyond = {3}, farthest = {SIZE_MAX};
 
 static int failed;
@@ -27,21 +27,32 @@ static void expect(int holds, const char *what, int line)
     }
 }
 
-/* An opening is accepted, and refused as soon as any table is one element shorter: the lengths are exactly those needed. */
-static void lengths_are_exact(struct rushhopper_tables *tables, struct rushhopper_numbers plan)
+/* An opening is accepted, and refused as soon as any memory is one element shorter: the lengths are exactly those needed. */
+static void lengths_are_exact(struct rushhopper_memories *memories, struct rushhopper_numbers plan)
 {
     size_t *const lengths[] = {
-        &tables->records_length, &tables->tags_length, &tables->holders_length, &tables->proposals_length,
-        &tables->ballots_length, &tables->heard_length, &tables->logs_length, &tables->strip_length
+        &memories->words_length, &memories->orders_length, &memories->ballots_length, &memories->strip_length
     };
     size_t i;
 
-    EXPECT(rushhopper_open_in(tables, plan, 0) == RUSHHOPPER_ACCEPTED);
+    EXPECT(rushhopper_words_length(plan) == memories->words_length);
+    EXPECT(rushhopper_orders_length(plan) == memories->orders_length);
+    EXPECT(rushhopper_ballots_length(plan) == memories->ballots_length);
+    EXPECT(rushhopper_strip_length(plan) == memories->strip_length);
+    EXPECT(rushhopper_open_in(memories, plan, 0) == RUSHHOPPER_ACCEPTED);
     for (i = 0; i < sizeof lengths / sizeof lengths[0]; i++) {
         --*lengths[i];
-        EXPECT(rushhopper_open_in(tables, plan, 0) == RUSHHOPPER_SHORT_TABLE);
+        EXPECT(rushhopper_open_in(memories, plan, 0) == RUSHHOPPER_SHORT_TABLE);
         ++*lengths[i];
     }
+}
+
+/* The numbers of README.md, "Sizes of the memories". */
+static void bytes_are_those_of_the_readme(void)
+{
+    EXPECT(RUSHHOPPER_BYTES(3, 64, 8, 256) == 15770 && RUSHHOPPER_BYTES(3, 64, 32, 256) == 44954);
+    EXPECT(RUSHHOPPER_BYTES(5, 64, 8, 256) == 24234 && RUSHHOPPER_BYTES(5, 64, 32, 256) == 71850);
+    EXPECT(RUSHHOPPER_BYTES(15, 64, 8, 256) == 66554 && RUSHHOPPER_BYTES(15, 64, 32, 256) == 206330);
 }
 
 static void nothing_goes_before_an_opening(void)
@@ -76,17 +87,36 @@ static void a_strip_is_filled_anew(void)
     EXPECT(rack.strip[0] == 0);
 }
 
+/* One word less than the records of replicas 0 and 1 need, and only replica 0's is wholly there. */
 static void a_crash_marks_its_record(void)
 {
     EXPECT(rushhopper_crash_in(&rack, beyond) == RUSHHOPPER_NO_SUCH_REPLICA);
     EXPECT(rushhopper_crash_in(&rack, farthest) == RUSHHOPPER_NO_SUCH_REPLICA);
-    rack.records_length = 4;
+    rack.words_length = 8;
     EXPECT(rushhopper_crash_in(&rack, one) == RUSHHOPPER_SHORT_TABLE);
-    rack.records_length = RUSHHOPPER_RECORDS_LENGTH(3);
+    EXPECT(rushhopper_crash_in(&rack, beyond) == RUSHHOPPER_NO_SUCH_REPLICA);
+    rack.words_length = 0;
+    EXPECT(rushhopper_crash_in(&rack, zero) == RUSHHOPPER_SHORT_TABLE && rushhopper_known_of(&rack) == 0);
+    rack.words_length = rushhopper_words_length(rack.numbers);
     EXPECT(!rushhopper_record_of(&rack, one).crashed);
     EXPECT(rushhopper_crash_in(&rack, one) == RUSHHOPPER_ACCEPTED);
     EXPECT(rushhopper_record_of(&rack, one).crashed && !rushhopper_record_of(&rack, zero).crashed);
     EXPECT(rushhopper_crash_in(&rack, one) == RUSHHOPPER_CRASHED);
+}
+
+/* Behind the records stand other cells, which are nobody's record. */
+static void readers_stay_in_the_run(void)
+{
+    const struct rushhopper_slot first = {0}, past = {SIZE_MAX};
+
+    EXPECT(rushhopper_open_in(&rack, three, 0) == RUSHHOPPER_ACCEPTED);
+    EXPECT(rushhopper_known_of(&rack) == 0);
+    EXPECT(rushhopper_submit_in(&rack, zero, 7) == RUSHHOPPER_ACCEPTED);
+    EXPECT(rushhopper_relay_in(&rack, one, 7) == RUSHHOPPER_ACCEPTED);
+    EXPECT(rushhopper_known_of(&rack) == 1);
+    EXPECT(!rushhopper_has_record(&rack, beyond) && !rushhopper_record_of(&rack, beyond).crashed);
+    EXPECT(!rushhopper_has_record(&rack, farthest) && rushhopper_has_record(&rack, one));
+    EXPECT(rushhopper_entry_of(&rack, farthest, first) == 0 && rushhopper_entry_of(&rack, zero, past) == 0);
 }
 
 /* The file opens a run of one replica, which closes slot 0 with 7: document 01's C1. */
@@ -94,23 +124,96 @@ static void a_file_is_played(void)
 {
     static const uint8_t file[] = {0, 1, 0, 1, 1, 1, 0, 0, 0, 1, 0, 7, 0, 0, 0, 0, 0, 0, 0, 3, 0, 7, 0};
     static const char expected[] = "controllers 1 spare 0\nbench 0 lit 1 7\n";
-    const struct rushhopper_numbers most = {1, 0, 1, 1, 1};
+    const struct rushhopper_slot first = {0};
     uint8_t report[64];
-    struct rushhopper_played played = rushhopper_play_in(&smallest, most, file, sizeof file, report, sizeof report);
+    struct rushhopper_played played = rushhopper_play_in(&smallest, alone, file, sizeof file, report, sizeof report);
 
     EXPECT(played.opened == 1 && smallest.numbers.n == 1);
     EXPECT(played.written == sizeof expected - 1 && memcmp(report, expected, sizeof expected - 1) == 0);
-    EXPECT(rushhopper_record_of(&smallest, zero).slot == 1 && rushhopper_log_of(&smallest, zero)[0] == 7);
-    played = rushhopper_play_in(&smallest, most, file + 9, sizeof file - 9, report, sizeof report);
+    EXPECT(rushhopper_record_of(&smallest, zero).slot == 1 && rushhopper_entry_of(&smallest, zero, first) == 7);
+    played = rushhopper_play_in(&smallest, alone, file, sizeof file, report, 5);
+    EXPECT(played.written == 5 && played.opened == 1);
+    played = rushhopper_play_in(&smallest, alone, file + 9, sizeof file - 9, report, sizeof report);
     EXPECT(played.opened == 0 && smallest.numbers.n == 1);
+}
+
+/* An f above most.f is accepted; what `most` lets in, the memories may still be too short for. */
+static void a_player_refuses_what_its_memories_cannot_hold(void)
+{
+    static const uint8_t file[] = {0, 3, 1, 2, 8, 4, 0, 0, 0};
+    const struct rushhopper_numbers flat = {3, 0, 2, 8, 4};
+    uint8_t report[128];
+    struct rushhopper_played played = rushhopper_play_in(&rack, flat, file, sizeof file, report, sizeof report);
+
+    EXPECT(played.opened == 1 && played.numbers.f == 1);
+    played = rushhopper_play_in(&smallest, flat, file, sizeof file, report, sizeof report);
+    EXPECT(played.opened == 0 && played.written == 12 && memcmp(report, "refused 1 2\n", 12) == 0);
+}
+
+/* The most lines that a file can have: a begin is as short as a record can be, and here each is refused. */
+static void no_report_fills_the_length_for_it(void)
+{
+    static uint8_t file[20001], report[RUSHHOPPER_REPORT_LENGTH(sizeof file, 15, 64)];
+    const struct rushhopper_numbers any = {SIZE_MAX, 0, SIZE_MAX, 32, 256};
+    size_t length, i;
+
+    for (i = 0; i < sizeof file; i++)
+        file[i] = i % 2 == 0 ? 3 : 0;
+    for (length = 0; length <= sizeof file; length += length < 40 ? 1 : 499) {
+        const size_t enough = rushhopper_report_length(length, most);
+        EXPECT(enough <= sizeof report && enough == rushhopper_report_length(length, any));
+        EXPECT(rushhopper_play_in(&largest, most, file, length, report, enough).written < enough);
+    }
+}
+
+/* The longest line that a replica can have: tags of 20 digits in all of 64 slots. */
+static void no_long_lines_fill_the_length_for_them(void)
+{
+    static const uint8_t opening[] = {0, 1, 0, 64, 1, 64, 0, 0, 0};
+    static uint8_t file[sizeof opening + 64 * 14], report[RUSHHOPPER_REPORT_LENGTH(sizeof file, 1, 64)];
+    const struct rushhopper_numbers one_of_64 = {1, 0, 64, 1, 64};
+    uint8_t *end = file + sizeof opening;
+    struct rushhopper_played played;
+    unsigned order;
+
+    memcpy(file, opening, sizeof opening);
+    for (order = 0; order < 64; order++) {
+        const uint8_t steps[] = {1, 0, (uint8_t)order, 255, 255, 255, 255, 255, 255, 255, 3, 0, 7, 0};
+        memcpy(end, steps, sizeof steps);
+        end += sizeof steps;
+    }
+    played = rushhopper_play_in(&largest, one_of_64, file, sizeof file, report, sizeof report);
+    EXPECT(rushhopper_record_of(&largest, zero).slot == 64);
+    EXPECT(played.written == 22 + 15 + 64 * 21 && played.written < sizeof report);
+}
+
+/* The message crosses as one struct: each of its parts is asked for. */
+static void a_message_is_heard(void)
+{
+    const struct rushhopper_message sent = {RUSHHOPPER_SORT_PROPOSAL, {0}, {0}, one};
+    struct rushhopper_message other_sort = sent, other_slot = sent, other_phase = sent, other_sender = sent;
+
+    other_sort.sort = RUSHHOPPER_SORT_VOTE + 1;
+    other_slot.slot.index = 1;
+    other_phase.phase.index = 1;
+    other_sender.sender = beyond;
+    EXPECT(rushhopper_open_in(&rack, three, 0) == RUSHHOPPER_ACCEPTED);
+    EXPECT(rushhopper_submit_in(&rack, one, 7) == RUSHHOPPER_ACCEPTED);
+    EXPECT(rushhopper_begin_in(&rack, one) == RUSHHOPPER_ACCEPTED);
+    EXPECT(rushhopper_hear_in(&rack, zero, other_sort) == RUSHHOPPER_NO_SUCH_MESSAGE);
+    EXPECT(rushhopper_hear_in(&rack, zero, other_slot) == RUSHHOPPER_NOT_SENT);
+    EXPECT(rushhopper_hear_in(&rack, zero, other_phase) == RUSHHOPPER_NO_SUCH_MESSAGE);
+    EXPECT(rushhopper_hear_in(&rack, zero, other_sender) == RUSHHOPPER_NO_SUCH_REPLICA);
+    EXPECT(rushhopper_hear_in(&rack, zero, sent) == RUSHHOPPER_ACCEPTED);
+    EXPECT(rushhopper_hear_in(&rack, zero, sent) == RUSHHOPPER_ALREADY_HEARD);
 }
 
 /* Replica 0's own messages alone are below the quorum of three replicas. */
 static void a_run_on_counts_its_advances(void)
 {
-    const struct rushhopper_numbers alone = {1, 0, 1, 1, 1};
     struct rushhopper_ran ran;
 
+    EXPECT(rushhopper_open_in(&rack, three, 0) == RUSHHOPPER_ACCEPTED);
     EXPECT(rushhopper_run_on_in(&rack, zero).refusal == RUSHHOPPER_NOT_BEGUN);
     EXPECT(rushhopper_submit_in(&rack, zero, 7) == RUSHHOPPER_ACCEPTED);
     EXPECT(rushhopper_begin_in(&rack, zero) == RUSHHOPPER_ACCEPTED);
@@ -144,17 +247,21 @@ static void words_are_the_documents(void)
 
 int main(void)
 {
-    const struct rushhopper_numbers one_of_each = {1, 0, 1, 1, 1}, most = {15, 7, 64, 32, 256};
-
     nothing_goes_before_an_opening();
-    lengths_are_exact(&smallest, one_of_each);
+    lengths_are_exact(&smallest, alone);
     lengths_are_exact(&rack, three);
     lengths_are_exact(&largest, most);
+    bytes_are_those_of_the_readme();
     an_opening_keeps_its_numbers();
     a_strip_is_filled_anew();
     a_crash_marks_its_record();
-    a_file_is_played();
+    readers_stay_in_the_run();
+    a_message_is_heard();
     a_run_on_counts_its_advances();
+    a_file_is_played();
+    a_player_refuses_what_its_memories_cannot_hold();
+    no_report_fills_the_length_for_it();
+    no_long_lines_fill_the_length_for_them();
     words_are_the_documents();
     return failed;
 }

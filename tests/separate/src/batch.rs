@@ -6,11 +6,11 @@ use crate::cases::{Case, Work};
 use crate::coin;
 use crate::compare::{compare_play, Difference, Pair};
 use crate::library;
+use crate::memories::{Memories, Record};
 use crate::numbers::Numbers;
 use crate::refusal::Refusal;
 use crate::rules;
 use crate::step_file;
-use crate::tables::{Record, Tables};
 use std::hint::black_box;
 use std::time::{Duration, Instant};
 
@@ -26,7 +26,7 @@ pub enum Side {
 /// What one call is lent.
 #[derive(Clone)]
 struct Lent {
-    tables: Tables,
+    memories: Memories,
     record: Record,
     report: Vec<u8>,
 }
@@ -42,22 +42,22 @@ pub struct Batch {
 impl Case {
     /// Makes the call of both sides; the answers and every cell must be equal, and the call do what it should.
     pub fn check(&self) -> Result<(), Difference> {
-        let tables = self.tables.clone();
+        let memories = self.memories.clone();
         match &self.work {
             Work::Call(call) => {
-                let result = Pair::of(tables).call(call, &self.numbers)?;
+                let result = Pair::of(memories).call(call, &self.numbers)?;
                 (self.does)(&result).then_some(()).ok_or(format!("did {result:?}"))
             }
-            Work::Play { file } => compare_play(&self.numbers, file, REPORT, tables),
+            Work::Play { file } => compare_play(&self.numbers, file, REPORT, memories),
             Work::FillStrip { .. } | Work::Crash { .. } => self.check_small(),
         }
     }
 
-    /// The calls that are not lent the tables; both sides must accept them.
+    /// The calls that are not lent the memories; both sides must accept them.
     fn check_small(&self) -> Result<(), Difference> {
         let [library, separate] = [Side::Library, Side::Separate].map(|side| {
             let mut lent = self.lent();
-            (self.make(side, &mut lent), lent.tables.strip, lent.record)
+            (self.make(side, &mut lent), lent.memories.strip, lent.record)
         });
         let right = library == separate && library.0 == 0;
         right.then_some(()).ok_or(format!("answers {} and {}", separate.0, library.0))
@@ -65,11 +65,11 @@ impl Case {
 
     fn lent(&self) -> Lent {
         let (record, report) = match self.work {
-            Work::Crash { who } => (self.tables.record(who).unwrap_or_default(), Vec::new()),
+            Work::Crash { who } => (self.memories.record(who).unwrap_or_default(), Vec::new()),
             Work::Play { .. } => (Record::default(), vec![0; REPORT]),
             _ => (Record::default(), Vec::new()),
         };
-        Lent { tables: self.tables.clone(), record, report }
+        Lent { memories: self.memories.clone(), record, report }
     }
 
     /// So many that the clock's steps do not show, so few that the cells in use stay in the first cache.
@@ -92,26 +92,26 @@ impl Case {
 }
 
 fn make_library(work: &Work, numbers: &Numbers, lent: &mut Lent) -> usize {
-    let Lent { tables, record, report } = lent;
+    let Lent { memories, record, report } = lent;
     match work {
-        Work::Call(call) => black_box(&library::make(call, numbers, tables)).refusal,
+        Work::Call(call) => black_box(&library::make(call, numbers, memories)).refusal,
         Work::FillStrip { start } => {
-            library::fill_strip(numbers.slots, numbers.phases, *start, &mut tables.strip)
+            library::fill_strip(numbers.slots, numbers.phases, *start, &mut memories.strip)
         }
         Work::Crash { who } => library::crash(numbers, *who, record),
-        Work::Play { file } => black_box(&library::play(numbers, file, report, tables)).written,
+        Work::Play { file } => black_box(&library::play(numbers, file, report, memories)).written,
     }
 }
 
 fn make_separate(work: &Work, numbers: &Numbers, lent: &mut Lent) -> usize {
-    let Lent { tables, record, .. } = lent;
+    let Lent { memories, record, .. } = lent;
     match work {
-        Work::Call(call) => refusal(black_box(&call.make(numbers, tables))),
+        Work::Call(call) => refusal(black_box(&call.make(numbers, memories))),
         Work::FillStrip { start } => {
-            refusal(&coin::fill_strip(numbers.slots, numbers.phases, *start, &mut tables.strip))
+            refusal(&coin::fill_strip(numbers.slots, numbers.phases, *start, &mut memories.strip))
         }
         Work::Crash { who } => refusal(&rules::crash(numbers, *who, record)),
-        Work::Play { file } => black_box(&step_file::play(numbers, file, tables)).report.len(),
+        Work::Play { file } => black_box(&step_file::play(numbers, file, memories)).report.len(),
     }
 }
 
@@ -124,7 +124,7 @@ impl Batch {
         let before = case.lent();
         let mut after = before.clone();
         case.make(Side::Separate, &mut after);
-        let undo = Undo::between(&before.tables, &after.tables);
+        let undo = Undo::between(&before.memories, &after.memories);
         let copies = vec![before.clone(); case.copies()];
         Batch { case, before, undo, copies }
     }
@@ -156,14 +156,16 @@ impl Batch {
 
     fn restore(&mut self) {
         for lent in &mut self.copies {
-            self.undo.put_back(&mut lent.tables);
+            self.undo.put_back(&mut lent.memories);
             lent.record = self.before.record;
         }
     }
 
     /// Whether all was put back; else later calls were others than the first.
     pub fn is_restored(&self) -> bool {
-        self.copies.iter().all(|lent| lent.tables == self.before.tables && lent.record == self.before.record)
+        self.copies
+            .iter()
+            .all(|lent| lent.memories == self.before.memories && lent.record == self.before.record)
     }
 }
 
@@ -176,42 +178,27 @@ pub fn clock() -> Duration {
 
 /// The cells that a call changes, as they were. Few as a rule: whole copies would sweep the caches.
 struct Undo {
-    records: Vec<(usize, u16)>,
-    known: u16,
-    tags: Vec<(usize, u64)>,
-    holders: Vec<(usize, u16)>,
-    proposals: Vec<(usize, u64)>,
+    words: Vec<(usize, u16)>,
+    orders: Vec<(usize, u64)>,
     ballots: Vec<(usize, u8)>,
-    heard: Vec<(usize, u16)>,
-    logs: Vec<(usize, u64)>,
     strip: Vec<(usize, u8)>,
 }
 
 impl Undo {
-    fn between(before: &Tables, after: &Tables) -> Undo {
+    fn between(before: &Memories, after: &Memories) -> Undo {
         Undo {
-            records: changed(&before.records, &after.records),
-            known: before.known,
-            tags: changed(&before.tags, &after.tags),
-            holders: changed(&before.holders, &after.holders),
-            proposals: changed(&before.proposals, &after.proposals),
+            words: changed(&before.words, &after.words),
+            orders: changed(&before.orders, &after.orders),
             ballots: changed(&before.ballots, &after.ballots),
-            heard: changed(&before.heard, &after.heard),
-            logs: changed(&before.logs, &after.logs),
             strip: changed(&before.strip, &after.strip),
         }
     }
 
-    fn put_back(&self, tables: &mut Tables) {
-        put(&self.records, &mut tables.records);
-        tables.known = self.known;
-        put(&self.tags, &mut tables.tags);
-        put(&self.holders, &mut tables.holders);
-        put(&self.proposals, &mut tables.proposals);
-        put(&self.ballots, &mut tables.ballots);
-        put(&self.heard, &mut tables.heard);
-        put(&self.logs, &mut tables.logs);
-        put(&self.strip, &mut tables.strip);
+    fn put_back(&self, memories: &mut Memories) {
+        put(&self.words, &mut memories.words);
+        put(&self.orders, &mut memories.orders);
+        put(&self.ballots, &mut memories.ballots);
+        put(&self.strip, &mut memories.strip);
     }
 }
 
@@ -220,8 +207,8 @@ fn changed<T: Copy + PartialEq>(before: &[T], after: &[T]) -> Vec<(usize, T)> {
     cells.filter(|((_, old), new)| old != *new).map(|(cell, _)| cell).collect()
 }
 
-fn put<T: Copy>(cells: &[(usize, T)], table: &mut [T]) {
+fn put<T: Copy>(cells: &[(usize, T)], memory: &mut [T]) {
     for &(place, value) in cells {
-        table[place] = value;
+        memory[place] = value;
     }
 }

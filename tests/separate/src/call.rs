@@ -1,10 +1,10 @@
 //! A call with its arguments, as a value: a record of a step file counts as one, and the comparison programs make the
 //! same one of both implementations.
 
+use crate::memories::Memories;
 use crate::numbers::Numbers;
 use crate::refusal::Refusal;
 use crate::rules::{self, Advanced, Ran, Submitted};
-use crate::tables::Tables;
 
 #[derive(Clone, Copy, Debug, PartialEq, Eq)]
 pub enum Call {
@@ -53,30 +53,33 @@ impl Call {
         }
     }
 
-    /// Makes the call on the tables of a run; an opening does not look at the run's numbers.
-    pub fn make(&self, numbers: &Numbers, tables: &mut Tables) -> Result<Done, Refusal> {
+    /// Makes the call on the memories of a run; an opening does not look at the run's numbers.
+    pub fn make(&self, numbers: &Numbers, memories: &mut Memories) -> Result<Done, Refusal> {
         match *self {
-            Call::Open { plan, start } => rules::open(&plan, start, tables).map(Done::Opened),
-            Call::Submit { who, tag } => rules::submit(numbers, who, tag, tables).map(Done::Submitted),
-            Call::Relay { who, tag } => rules::relay(numbers, who, tag, tables).map(|()| Done::Relayed),
-            Call::Begin { who } => rules::begin(numbers, who, tables).map(Done::Begun),
+            Call::Open { plan, start } => rules::open(&plan, start, memories).map(Done::Opened),
+            Call::Submit { who, tag } => rules::submit(numbers, who, tag, memories).map(Done::Submitted),
+            Call::Relay { who, tag } => rules::relay(numbers, who, tag, memories).map(|()| Done::Relayed),
+            Call::Begin { who } => rules::begin(numbers, who, memories).map(Done::Begun),
             Call::Hear { receiver, sender, sort, slot, phase } => {
-                rules::hear(numbers, receiver, sender, sort, slot, phase, tables).map(|()| Done::Heard)
+                rules::hear(numbers, receiver, sender, sort, slot, phase, memories).map(|()| Done::Heard)
             }
-            Call::Advance { who } => rules::advance(numbers, who, tables).map(Done::Advanced),
-            Call::Crash { who } => crash_in(numbers, who, tables).map(|()| Done::Crashed),
-            Call::RunOn { who } => rules::run_on(numbers, who, tables).map(Done::RanOn),
+            Call::Advance { who } => rules::advance(numbers, who, memories).map(Done::Advanced),
+            Call::Crash { who } => crash_in(numbers, who, memories).map(|()| Done::Crashed),
+            Call::RunOn { who } => rules::run_on(numbers, who, memories).map(Done::RanOn),
         }
     }
 }
 
-/// Lends a crash the record that the tables have of the replica it names; where they have none, a blank one.
-fn crash_in(numbers: &Numbers, who: usize, tables: &mut Tables) -> Result<(), Refusal> {
-    let mut record = tables.record(who).unwrap_or_default();
+/// Lends a crash the record that the memories have of the replica it names. Where they have none, a blank one is lent,
+/// and one that would be marked gets 2.
+fn crash_in(numbers: &Numbers, who: usize, memories: &mut Memories) -> Result<(), Refusal> {
+    let lent = memories.record(who);
+    let mut record = lent.unwrap_or_default();
     rules::crash(numbers, who, &mut record)?;
-    if tables.record(who).is_some() {
-        tables.set_record(who, record);
+    if lent.is_none() {
+        return Err(Refusal::ShortTable);
     }
+    memories.set_record(who, record);
     Ok(())
 }
 

@@ -1,11 +1,11 @@
-//! What the benchmark measures: each call on the tables of a scripted run.
+//! What the benchmark measures: each call on the memories of a scripted run.
 
 use crate::call::{Call, Done};
+use crate::memories::{Memories, ONE, ZERO};
 use crate::numbers::{Numbers, Sort};
 use crate::refusal::Refusal;
 use crate::rules::{Advanced, Ran, Stop, Submitted};
 use crate::script::{order, Fill, Script};
-use crate::tables::{Tables, ONE, ZERO};
 
 pub enum Work {
     FillStrip {
@@ -27,14 +27,14 @@ pub type Answered = Result<Done, Refusal>;
 pub struct Case {
     pub name: String,
     pub numbers: Numbers,
-    /// The tables before the call.
-    pub tables: Tables,
+    /// The memories before the call.
+    pub memories: Memories,
     pub work: Work,
     /// Whether the call did what it is measured for.
     pub does: fn(&Answered) -> bool,
 }
 
-/// A kind of case. `--callgrind` takes its name; the tables of measurements show its words.
+/// A kind of case. `--callgrind` takes its name; the measurements show its words.
 pub struct Kind {
     pub name: &'static str,
     pub words: &'static str,
@@ -48,9 +48,9 @@ impl Kind {
     }
 
     pub fn case(&self, numbers: &Numbers, fill: Fill) -> Case {
-        let (Script { tables, .. }, work) = (self.prepare)(numbers, fill);
+        let (Script { memories, .. }, work) = (self.prepare)(numbers, fill);
         let name = format!("{}, {numbers:?}, {fill:?}", self.name);
-        Case { name, numbers: *numbers, tables, work, does: self.does }
+        Case { name, numbers: *numbers, memories, work, does: self.does }
     }
 }
 
@@ -247,10 +247,10 @@ mod tests {
         for n in 3..=15 {
             let numbers = Numbers { n, f: (n - 1) / 2, slots: 4, phases: 2, room: 32 };
             for kind in &KINDS {
-                let Case { name, mut tables, work, does, .. } =
+                let Case { name, mut memories, work, does, .. } =
                     kind.case(&numbers, Fill { known: 4, closed: 2 });
                 if let Work::Call(call) = work {
-                    assert!(does(&call.make(&numbers, &mut tables)), "{name}");
+                    assert!(does(&call.make(&numbers, &mut memories)), "{name}");
                 }
             }
         }

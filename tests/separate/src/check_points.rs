@@ -1,77 +1,80 @@
-//! Document 01's check points C1 to C10, "Further" and its worked session; C11 stands beside the coin table.
+//! Document 01's check points C1 to C10, "Further" and its worked session, and refusals 3 and 2 of short memories; C11
+//! stands beside the coin table.
 
-use crate::call::Call;
+use crate::call::{Call, Done};
+use crate::memories::{bit, Memories, Record, EXCHANGE, IDLE, ONE, STATE, UNDECIDED, VOTE, ZERO};
 use crate::numbers::{Message, Numbers, Sort};
 use crate::refusal::Refusal;
 use crate::rules::{self, Advanced, Ran, Stop};
 use crate::step_file::{report, write_record};
-use crate::tables::{bit, Record, Tables, EXCHANGE, IDLE, ONE, STATE, UNDECIDED, VOTE, ZERO};
 
-fn opened(n: usize, f: usize) -> (Numbers, Tables) {
+const PROPOSALS: Message = Message { sort: Sort::Proposal, slot: 0, phase: 0 };
+
+fn opened(n: usize, f: usize) -> (Numbers, Memories) {
     let numbers = Numbers { n, f, slots: 2, phases: 4, room: 4 };
-    let mut tables = Tables::of_run(&numbers);
-    assert_eq!(rules::open(&numbers, 0, &mut tables), Ok(numbers));
-    (numbers, tables)
+    let mut memories = Memories::of_run(&numbers);
+    assert_eq!(rules::open(&numbers, 0, &mut memories), Ok(numbers));
+    (numbers, memories)
 }
 
 /// A run in which replica 0 is in the exchange of slot 0 and has heard these proposals.
-fn heard_proposals(n: usize, f: usize, tags: &[u64]) -> (Numbers, Tables) {
-    let (numbers, mut tables) = opened(n, f);
+fn heard_proposals(n: usize, f: usize, tags: &[u64]) -> (Numbers, Memories) {
+    let (numbers, mut memories) = opened(n, f);
     for (sender, &tag) in tags.iter().enumerate() {
-        tables.send_proposal(&numbers, 0, sender, tag);
-        tables.heard[sender] |= bit(0);
+        memories.send_proposal(&numbers, 0, sender, tag);
+        memories.words[numbers.heard_cell(PROPOSALS, sender)] |= bit(0);
     }
-    tables.set_record(0, Record { round: EXCHANGE, ..Record::default() });
-    (numbers, tables)
+    memories.set_record(0, Record { round: EXCHANGE, ..Record::default() });
+    (numbers, memories)
 }
 
 /// A run in which replica 0 has heard these states or votes of phase 1 and is in that round of the slot.
-fn heard_ballots(numbers: &Numbers, message: Message, words: &[u8]) -> Tables {
-    let mut tables = Tables::of_run(numbers);
-    assert_eq!(rules::open(numbers, 0, &mut tables), Ok(*numbers));
+fn heard_ballots(numbers: &Numbers, message: Message, words: &[u8]) -> Memories {
+    let mut memories = Memories::of_run(numbers);
+    assert_eq!(rules::open(numbers, 0, &mut memories), Ok(*numbers));
     for (sender, &word) in words.iter().enumerate() {
-        tables.send_ballot(numbers, message, sender, word);
-        tables.heard[numbers.heard_cell(message, sender)] |= bit(0);
+        memories.send_ballot(numbers, message, sender, word);
+        memories.words[numbers.heard_cell(message, sender)] |= bit(0);
     }
     let round = if message.sort == Sort::State { STATE } else { VOTE };
-    tables
+    memories
         .set_record(0, Record { crashed: 0, round, slot: message.slot as u16, phase: message.phase as u16 });
-    tables
+    memories
 }
 
 fn advance_on_votes(n: usize, f: usize, slot: usize, words: &[u8]) -> Result<Advanced, Refusal> {
     let numbers = Numbers { n, f, slots: 2, phases: 4, room: 4 };
-    let mut tables = heard_ballots(&numbers, Message { sort: Sort::Vote, slot, phase: 1 }, words);
-    rules::advance(&numbers, 0, &mut tables)
+    let mut memories = heard_ballots(&numbers, Message { sort: Sort::Vote, slot, phase: 1 }, words);
+    rules::advance(&numbers, 0, &mut memories)
 }
 
 #[test]
 fn c1_one_replica_closes() {
-    let (numbers, mut tables) = opened(1, 0);
-    assert_eq!(rules::submit(&numbers, 0, 7, &mut tables), Ok(rules::Submitted::New));
-    assert_eq!(rules::begin(&numbers, 0, &mut tables), Ok(7));
-    assert_eq!(rules::advance(&numbers, 0, &mut tables), Ok(Advanced::Exchanged(ONE)));
-    assert_eq!(rules::advance(&numbers, 0, &mut tables), Ok(Advanced::Voted(ONE)));
-    assert_eq!(rules::advance(&numbers, 0, &mut tables), Ok(Advanced::ClosedWith(7)));
+    let (numbers, mut memories) = opened(1, 0);
+    assert_eq!(rules::submit(&numbers, 0, 7, &mut memories), Ok(rules::Submitted::New));
+    assert_eq!(rules::begin(&numbers, 0, &mut memories), Ok(7));
+    assert_eq!(rules::advance(&numbers, 0, &mut memories), Ok(Advanced::Exchanged(ONE)));
+    assert_eq!(rules::advance(&numbers, 0, &mut memories), Ok(Advanced::Voted(ONE)));
+    assert_eq!(rules::advance(&numbers, 0, &mut memories), Ok(Advanced::ClosedWith(7)));
     assert_eq!(
-        (tables.logs[0], tables.record(0)),
-        (7, Some(Record { round: IDLE, slot: 1, phase: 1, crashed: 0 }))
+        (memories.log(&numbers, 0, 1), memories.record(0)),
+        (&[7][..], Some(Record { round: IDLE, slot: 1, phase: 1, crashed: 0 }))
     );
 }
 
 #[test]
 fn c1_by_run_on() {
-    let (numbers, mut tables) = opened(1, 0);
-    assert_eq!(rules::submit(&numbers, 0, 7, &mut tables), Ok(rules::Submitted::New));
-    assert_eq!(rules::begin(&numbers, 0, &mut tables), Ok(7));
-    assert_eq!(rules::run_on(&numbers, 0, &mut tables), Ok(Ran { advances: 3, stop: Stop::Closed }));
+    let (numbers, mut memories) = opened(1, 0);
+    assert_eq!(rules::submit(&numbers, 0, 7, &mut memories), Ok(rules::Submitted::New));
+    assert_eq!(rules::begin(&numbers, 0, &mut memories), Ok(7));
+    assert_eq!(rules::run_on(&numbers, 0, &mut memories), Ok(Ran { advances: 3, stop: Stop::Closed }));
 }
 
 #[test]
 fn c2_c3_c4_states_of_the_exchange() {
     for (n, tags, state) in [(3, vec![5, 5], ONE), (3, vec![5, 9], ZERO), (4, vec![5, 5, 9], ZERO)] {
-        let (numbers, mut tables) = heard_proposals(n, 1, &tags);
-        assert_eq!(rules::advance(&numbers, 0, &mut tables), Ok(Advanced::Exchanged(state)));
+        let (numbers, mut memories) = heard_proposals(n, 1, &tags);
+        assert_eq!(rules::advance(&numbers, 0, &mut memories), Ok(Advanced::Exchanged(state)));
     }
 }
 
@@ -79,8 +82,8 @@ fn c2_c3_c4_states_of_the_exchange() {
 fn c5_no_majority_of_states() {
     let numbers = Numbers { n: 4, f: 1, slots: 2, phases: 4, room: 4 };
     let states = Message { sort: Sort::State, slot: 0, phase: 1 };
-    let mut tables = heard_ballots(&numbers, states, &[ONE, ONE, ZERO]);
-    assert_eq!(rules::advance(&numbers, 0, &mut tables), Ok(Advanced::Voted(UNDECIDED)));
+    let mut memories = heard_ballots(&numbers, states, &[ONE, ONE, ZERO]);
+    assert_eq!(rules::advance(&numbers, 0, &mut memories), Ok(Advanced::Voted(UNDECIDED)));
 }
 
 /// No proposal is heard here, so the outcome 1 of C6 shows as the find round.
@@ -99,36 +102,36 @@ fn c8_coin() {
 
 #[test]
 fn c9_find() {
-    let (numbers, mut tables) = heard_proposals(3, 1, &[5, 9, 5]);
-    tables.heard[2] = bit(2);
+    let (numbers, mut memories) = heard_proposals(3, 1, &[5, 9, 5]);
+    memories.words[numbers.heard_cell(PROPOSALS, 2)] = bit(2);
     let votes = Message { sort: Sort::Vote, slot: 0, phase: 1 };
     for sender in 0..2 {
-        tables.send_ballot(&numbers, votes, sender, ONE);
-        tables.heard[numbers.heard_cell(votes, sender)] |= bit(0);
+        memories.send_ballot(&numbers, votes, sender, ONE);
+        memories.words[numbers.heard_cell(votes, sender)] |= bit(0);
     }
-    tables.set_record(0, Record { crashed: 0, round: VOTE, slot: 0, phase: 1 });
-    assert_eq!(rules::advance(&numbers, 0, &mut tables), Ok(Advanced::EnteredFind));
-    assert_eq!(rules::advance(&numbers, 0, &mut tables), Err(Refusal::TooFewHeard));
-    assert_eq!(rules::hear(&numbers, 0, 2, 1, 0, 0, &mut tables), Ok(()));
-    assert_eq!(rules::advance(&numbers, 0, &mut tables), Ok(Advanced::Found(5)));
-    assert_eq!(tables.logs[0], 5);
+    memories.set_record(0, Record { crashed: 0, round: VOTE, slot: 0, phase: 1 });
+    assert_eq!(rules::advance(&numbers, 0, &mut memories), Ok(Advanced::EnteredFind));
+    assert_eq!(rules::advance(&numbers, 0, &mut memories), Err(Refusal::TooFewHeard));
+    assert_eq!(rules::hear(&numbers, 0, 2, 1, 0, 0, &mut memories), Ok(()));
+    assert_eq!(rules::advance(&numbers, 0, &mut memories), Ok(Advanced::Found(5)));
+    assert_eq!(memories.log(&numbers, 0, 1), [5]);
 }
 
 #[test]
 fn c10_smallest_pending() {
-    let (numbers, mut tables) = opened(3, 1);
+    let (numbers, mut memories) = opened(3, 1);
     for tag in [9, 5] {
-        assert_eq!(rules::submit(&numbers, 0, tag, &mut tables), Ok(rules::Submitted::New));
+        assert_eq!(rules::submit(&numbers, 0, tag, &mut memories), Ok(rules::Submitted::New));
     }
-    assert_eq!(rules::begin(&numbers, 0, &mut tables), Ok(5));
+    assert_eq!(rules::begin(&numbers, 0, &mut memories), Ok(5));
 }
 
 #[test]
 fn further_openings() {
     let most = Numbers { n: 15, f: 7, slots: 64, phases: 32, room: 256 };
-    let mut tables = Tables::of_run(&most);
+    let mut memories = Memories::of_run(&most);
     let mut answer = |n, f, slots, start| {
-        rules::open(&Numbers { n, f, slots, phases: 0, room: 256 }, start, &mut tables)
+        rules::open(&Numbers { n, f, slots, phases: 0, room: 256 }, start, &mut memories)
             .map(|numbers| numbers.phases)
     };
     assert_eq!(answer(4, 2, 1, 0), Err(Refusal::BadPlan));
@@ -140,9 +143,60 @@ fn further_openings() {
 
 #[test]
 fn further_hearing_oneself() {
-    let (numbers, mut tables) = heard_proposals(3, 1, &[5]);
-    assert_eq!(rules::hear(&numbers, 0, 0, 1, 0, 0, &mut tables), Err(Refusal::Heard));
-    assert_eq!(rules::hear(&numbers, 0, 0, 2, 0, 1, &mut tables), Err(Refusal::Unsent));
+    let (numbers, mut memories) = heard_proposals(3, 1, &[5]);
+    assert_eq!(rules::hear(&numbers, 0, 0, 1, 0, 0, &mut memories), Err(Refusal::Heard));
+    assert_eq!(rules::hear(&numbers, 0, 0, 2, 0, 1, &mut memories), Err(Refusal::Unsent));
+}
+
+/// The mark of one's own proposal is missing: it is heard all the same.
+#[test]
+fn ones_own_counts_without_its_mark() {
+    let (numbers, mut memories) = heard_proposals(3, 1, &[5, 5]);
+    memories.words[numbers.heard_cell(PROPOSALS, 0)] = 0;
+    assert_eq!(rules::hear(&numbers, 0, 0, 1, 0, 0, &mut memories), Err(Refusal::Heard));
+    assert_eq!(rules::advance(&numbers, 0, &mut memories), Ok(Advanced::Exchanged(ONE)));
+}
+
+/// Refusal 3 before 2, for as much of the words as is there: no word at all, a count, records whole and in part.
+#[test]
+fn short_words_are_judged_as_far_as_they_go() {
+    let (numbers, whole) = opened(3, 1);
+    let answer = |words: &[u16]| {
+        let mut memories = Memories { words: words.to_vec(), ..whole.clone() };
+        rules::begin(&numbers, 0, &mut memories)
+    };
+    assert_eq!(answer(&[]), Err(Refusal::ShortTable));
+    assert_eq!(answer(&[4]), Err(Refusal::ShortTable));
+    assert_eq!(answer(&[5]), Err(Refusal::SpoiledRecord));
+    assert_eq!(answer(&[0, 0, 9, 0]), Err(Refusal::ShortTable));
+    assert_eq!(answer(&[0, 0, 9, 0, 0]), Err(Refusal::SpoiledRecord));
+    assert_eq!(answer(&[0, 0, 0, 0, 0, 0, 9, 0]), Err(Refusal::ShortTable));
+    assert_eq!(answer(&[0, 0, 0, 0, 0, 0, 9, 0, 0]), Err(Refusal::SpoiledRecord));
+}
+
+/// Behind the records of three replicas stand the holders, which five replicas' numbers take for records.
+#[test]
+fn records_are_there_by_the_numbers_of_the_call() {
+    let (numbers, mut memories) = opened(3, 1);
+    memories.words[13 + 1] = 9;
+    assert_eq!(rules::begin(&numbers, 0, &mut memories), Err(Refusal::NothingPending));
+    let more = Numbers { n: 5, ..numbers };
+    assert_eq!(rules::begin(&more, 0, &mut memories), Err(Refusal::SpoiledRecord));
+    memories.words[13 + 1] = 0;
+    assert_eq!(rules::begin(&more, 0, &mut memories), Err(Refusal::ShortTable));
+}
+
+#[test]
+fn a_crash_of_a_record_that_is_not_there() {
+    let (numbers, mut memories) = opened(3, 1);
+    memories.words.truncate(8);
+    let mut answer = |who| Call::Crash { who }.make(&numbers, &mut memories);
+    assert_eq!(answer(1), Err(Refusal::ShortTable));
+    assert_eq!(answer(3), Err(Refusal::NoSuchBench));
+    assert_eq!(answer(0), Ok(Done::Crashed));
+    assert_eq!(answer(0), Err(Refusal::Dark));
+    let beyond = Numbers { n: 16, ..numbers };
+    assert_eq!(Call::Crash { who: 1 }.make(&beyond, &mut memories), Err(Refusal::SpoiledRecord));
 }
 
 /// The calls of the document's input: slot 0, phase 1 throughout.

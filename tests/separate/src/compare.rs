@@ -1,24 +1,24 @@
-//! One call or one step file, made of both implementations on equal tables.
+//! One call or one step file, made of both implementations on equal memories.
 
 use crate::call::{Answer, Call, Done};
 use crate::library;
+use crate::memories::Memories;
 use crate::numbers::Numbers;
 use crate::refusal::Refusal;
 use crate::step_file::{self, Played};
-use crate::tables::Tables;
 
 /// What differed, in words.
 pub type Difference = String;
 
-/// The tables of both; equal before and after each call, or there is a difference.
+/// The memories of both; equal before and after each call, or there is a difference.
 pub struct Pair {
-    pub ours: Tables,
-    pub theirs: Tables,
+    pub ours: Memories,
+    pub theirs: Memories,
 }
 
 impl Pair {
-    pub fn of(tables: Tables) -> Pair {
-        Pair { theirs: tables.clone(), ours: tables }
+    pub fn of(memories: Memories) -> Pair {
+        Pair { theirs: memories.clone(), ours: memories }
     }
 
     /// Makes one call of both and compares the answers and every cell.
@@ -37,9 +37,9 @@ impl Pair {
     }
 }
 
-/// Plays a step file with both on equal tables: the library's answer, report and every cell must be ours. The
+/// Plays a step file with both on equal memories: the library's answer, report and every cell must be ours. The
 /// library's buffer is `room` bytes long; it cuts a longer report there and leaves the rest of the buffer alone.
-pub fn compare_play(most: &Numbers, file: &[u8], room: usize, lent: Tables) -> Result<(), Difference> {
+pub fn compare_play(most: &Numbers, file: &[u8], room: usize, lent: Memories) -> Result<(), Difference> {
     const UNTOUCHED: u8 = 0xa5;
     let mut pair = Pair::of(lent);
     let Played { opened, mut report } = step_file::play(most, file, &mut pair.ours);
@@ -74,19 +74,14 @@ pub fn first_line(ours: &[u8], theirs: &[u8]) -> Difference {
     format!("line {}\nours {:?}\nlibrary's {:?}", line + 1, ours.get(line), theirs.get(line))
 }
 
-fn first_difference(ours: &Tables, theirs: &Tables) -> Difference {
-    fn cell<T: PartialEq + std::fmt::Debug>(table: &str, ours: &[T], theirs: &[T]) -> Option<Difference> {
+fn first_difference(ours: &Memories, theirs: &Memories) -> Difference {
+    fn cell<T: PartialEq + std::fmt::Debug>(memory: &str, ours: &[T], theirs: &[T]) -> Option<Difference> {
         let place = ours.iter().zip(theirs).position(|(one, other)| one != other)?;
-        Some(format!("{table}, cell {place}\nours {:?}\nlibrary's {:?}", ours[place], theirs[place]))
+        Some(format!("{memory}, cell {place}\nours {:?}\nlibrary's {:?}", ours[place], theirs[place]))
     }
-    cell("records", &ours.records, &theirs.records)
-        .or_else(|| cell("known", &[ours.known], &[theirs.known]))
-        .or_else(|| cell("tags", &ours.tags, &theirs.tags))
-        .or_else(|| cell("holders", &ours.holders, &theirs.holders))
-        .or_else(|| cell("proposals", &ours.proposals, &theirs.proposals))
+    cell("words", &ours.words, &theirs.words)
+        .or_else(|| cell("orders", &ours.orders, &theirs.orders))
         .or_else(|| cell("ballots", &ours.ballots, &theirs.ballots))
-        .or_else(|| cell("heard", &ours.heard, &theirs.heard))
-        .or_else(|| cell("logs", &ours.logs, &theirs.logs))
         .or_else(|| cell("strip", &ours.strip, &theirs.strip))
         .unwrap_or_default()
 }

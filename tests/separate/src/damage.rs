@@ -1,148 +1,186 @@
-//! Tables that no run leaves behind: junk, bits of replicas that are not there, spoiled records, tables that are short.
+//! Memories that no run leaves behind: junk, bits of replicas that are not there, spoiled records, memories that are short.
 
-use crate::numbers::Numbers;
+use crate::memories::{bit, Memories, Record, IDLE, STATE, UNDECIDED, VOTE};
+use crate::numbers::{Numbers, RECORDS};
 use crate::random::Random;
-use crate::tables::{Record, Tables, IDLE, STATE, UNDECIDED, VOTE};
 
-pub type Damage = fn(&mut Random, &Numbers, &mut Tables);
+pub type Damage = fn(&mut Random, &Numbers, &mut Memories);
 
-pub const DAMAGES: [(&str, Damage); 35] = [
-    ("mask bits of n and above, holders", |random, numbers, tables| {
-        tables.holders.iter_mut().for_each(|mask| *mask |= bits_above(random, numbers));
+pub const DAMAGES: [(&str, Damage); 36] = [
+    ("mask bits of n and above, holders", |random, numbers, memories| {
+        holders(numbers, memories).iter_mut().for_each(|mask| *mask |= bits_above(random, numbers));
     }),
-    ("mask bits of n and above, heard", |random, numbers, tables| {
-        tables.heard.iter_mut().for_each(|mask| *mask |= bits_above(random, numbers));
+    ("mask bits of n and above, heard", |random, numbers, memories| {
+        heard(numbers, memories).iter_mut().for_each(|mask| *mask |= bits_above(random, numbers));
     }),
-    ("junk in holders", |random, _, tables| {
-        scatter(random, &mut tables.holders, |random| random.word() as u16)
+    ("junk in holders", |random, numbers, memories| {
+        scatter(random, holders(numbers, memories), |random| random.word() as u16);
     }),
-    ("junk in heard", |random, _, tables| scatter(random, &mut tables.heard, |random| random.word() as u16)),
-    ("junk in ballots", |random, _, tables| {
-        scatter(random, &mut tables.ballots, |random| random.word() as u8)
+    ("junk in heard", |random, numbers, memories| {
+        scatter(random, heard(numbers, memories), |random| random.word() as u16);
     }),
-    ("states that say ?", |random, _, tables| scatter(random, &mut tables.ballots, |_| UNDECIDED)),
-    ("any small ballots", |random, _, tables| {
-        scatter(random, &mut tables.ballots, |random| random.below(5) as u8);
+    ("own heard marks taken away", |_, numbers, memories| {
+        let cells = heard(numbers, memories).iter_mut().enumerate();
+        cells.for_each(|(cell, mask)| *mask &= !bit(cell % numbers.n));
     }),
-    ("proposals taken back", |random, _, tables| scatter(random, &mut tables.proposals, |_| 0)),
-    ("other proposals", |random, _, tables| {
-        scatter(random, &mut tables.proposals, |random| random.below(4) as u64);
+    ("junk in ballots", |random, _, memories| {
+        scatter(random, &mut memories.ballots, |random| random.word() as u8)
     }),
-    ("junk in logs", |random, _, tables| scatter(random, &mut tables.logs, |random| random.below(8) as u64)),
-    ("junk in the strip", |random, _, tables| {
-        scatter(random, &mut tables.strip, |random| random.word() as u8)
+    ("states that say ?", |random, _, memories| scatter(random, &mut memories.ballots, |_| UNDECIDED)),
+    ("any small ballots", |random, _, memories| {
+        scatter(random, &mut memories.ballots, |random| random.below(5) as u8);
     }),
-    ("tags of 0", |random, _, tables| scatter(random, &mut tables.tags, |_| 0)),
-    ("tags known twice", |random, _, tables| {
-        scatter(random, &mut tables.tags, |random| 1 + random.below(2) as u64);
+    ("heard marks on what was not sent", |random, numbers, memories| {
+        heard(numbers, memories).fill(u16::MAX);
+        scatter(random, &mut memories.ballots, |random| random.pick(&[0, 4, 128, u8::MAX]));
+        scatter(random, proposals(numbers, memories), |_| 0);
     }),
-    ("another count of known tags", |random, numbers, tables| {
-        tables.known = random.below(numbers.room + 1) as u16;
+    ("proposals taken back", |random, numbers, memories| {
+        scatter(random, proposals(numbers, memories), |_| 0);
     }),
-    ("known above room", |random, numbers, tables| {
-        tables.known = random.pick(&[numbers.room as u16 + 1, u16::MAX]);
+    ("other proposals", |random, numbers, memories| {
+        scatter(random, proposals(numbers, memories), |random| random.below(4) as u64);
     }),
-    ("any whole record", |random, numbers, tables| {
+    ("junk in logs", |random, numbers, memories| {
+        scatter(random, logs(numbers, memories), |random| random.below(8) as u64);
+    }),
+    ("junk in the strip", |random, _, memories| {
+        scatter(random, &mut memories.strip, |random| random.word() as u8)
+    }),
+    ("tags of 0", |random, numbers, memories| scatter(random, tags(numbers, memories), |_| 0)),
+    ("tags known twice", |random, numbers, memories| {
+        scatter(random, tags(numbers, memories), |random| 1 + random.below(2) as u64);
+    }),
+    ("another count of known tags", |random, numbers, memories| {
+        set_known(memories, random.below(numbers.room + 1));
+    }),
+    ("known above room", |random, numbers, memories| {
+        set_known(memories, above_room(random, numbers));
+    }),
+    ("known above room in short words", |random, numbers, memories| {
+        set_known(memories, above_room(random, numbers));
+        memories.words.truncate(random.between(1, numbers.lengths().words - 1));
+    }),
+    ("any whole record", |random, numbers, memories| {
         let slot = random.below(numbers.slots) as u16;
         let (round, phase) = (random.below(5) as u16, random.between(1, numbers.phases) as u16);
-        spoil(random, numbers, tables, |record| Record { round, slot, phase, ..record });
+        spoil(random, numbers, memories, |record| Record { round, slot, phase, ..record });
     }),
-    ("crashed by another word than 1", |random, numbers, tables| {
+    ("crashed by another word than 1", |random, numbers, memories| {
         let crashed = random.pick(&[2, 256, u16::MAX]);
-        spoil(random, numbers, tables, |record| Record { crashed, ..record });
+        spoil(random, numbers, memories, |record| Record { crashed, ..record });
     }),
-    ("a round that is none of the five", |random, numbers, tables| {
+    ("a round that is none of the five", |random, numbers, memories| {
         let round = random.pick(&[5, 6, u16::MAX]);
-        spoil(random, numbers, tables, |record| Record { round, ..record });
+        spoil(random, numbers, memories, |record| Record { round, ..record });
     }),
-    ("a slot above the slot count", |random, numbers, tables| {
+    ("a slot above the slot count", |random, numbers, memories| {
         let slot = random.pick(&[numbers.slots as u16 + 1, u16::MAX]);
-        spoil(random, numbers, tables, |record| Record { round: IDLE, slot, ..record });
+        spoil(random, numbers, memories, |record| Record { round: IDLE, slot, ..record });
     }),
-    ("the slot count in a round", |random, numbers, tables| {
+    ("the slot count in a round", |random, numbers, memories| {
         let (round, slot) = (random.between(1, 4) as u16, numbers.slots as u16);
-        spoil(random, numbers, tables, |record| Record { round, slot, phase: 1, ..record });
+        spoil(random, numbers, memories, |record| Record { round, slot, phase: 1, ..record });
     }),
-    ("the slot count when idle", |random, numbers, tables| {
+    ("the slot count when idle", |random, numbers, memories| {
         let (slot, phase) = (numbers.slots as u16, random.word() as u16);
-        spoil(random, numbers, tables, |record| Record { round: IDLE, slot, phase, ..record });
+        spoil(random, numbers, memories, |record| Record { round: IDLE, slot, phase, ..record });
     }),
-    ("a phase out of range, state", |random, numbers, tables| {
+    ("a phase out of range, state", |random, numbers, memories| {
         let phase = random.pick(&[0, numbers.phases as u16 + 1, u16::MAX]);
-        spoil(random, numbers, tables, |record| Record { round: STATE, slot: 0, phase, ..record });
+        spoil(random, numbers, memories, |record| Record { round: STATE, slot: 0, phase, ..record });
     }),
-    ("a phase out of range, vote", |random, numbers, tables| {
+    ("a phase out of range, vote", |random, numbers, memories| {
         let phase = random.pick(&[0, numbers.phases as u16 + 1, u16::MAX]);
-        spoil(random, numbers, tables, |record| Record { round: VOTE, slot: 0, phase, ..record });
+        spoil(random, numbers, memories, |record| Record { round: VOTE, slot: 0, phase, ..record });
     }),
-    ("a phase out of range in another round", |random, numbers, tables| {
+    ("a phase out of range in another round", |random, numbers, memories| {
         let (round, phase) =
             (random.pick(&[0, 1, 4]), random.pick(&[0, numbers.phases as u16 + 1, u16::MAX]));
-        spoil(random, numbers, tables, |record| Record { round, slot: 0, phase, ..record });
+        spoil(random, numbers, memories, |record| Record { round, slot: 0, phase, ..record });
     }),
-    ("a spoiled record in short records", |random, numbers, tables| {
-        let last = (numbers.n - 1).min(random.below(4));
-        tables.records.resize(4 * last + random.below(5), 0);
-        tables.records.iter_mut().for_each(|word| *word = random.below(7) as u16);
+    ("a spoiled record in short words", |random, numbers, memories| {
+        let whole = (numbers.n - 1).min(random.below(4));
+        memories.words.resize(RECORDS + 4 * whole + random.below(5), 0);
+        memories.words[RECORDS..].fill_with(|| random.below(7) as u16);
     }),
-    ("a spoiled record of no replica", |random, numbers, tables| {
-        tables.records.truncate(4 * numbers.n);
-        tables.records.extend([u16::MAX; 6].into_iter().take(random.below(7)));
+    ("a spoiled record of no replica", |_, numbers, memories| {
+        let behind = numbers.holders_start();
+        section(&mut memories.words, behind, behind + 4).fill(u16::MAX);
     }),
-    ("junk in all tables", |random, _, tables| junk(random, tables)),
-    ("short records", |random, numbers, tables| {
-        tables.records.truncate(shorter(random, numbers.lengths().records));
+    ("junk in all memories", |random, _, memories| junk(random, memories)),
+    ("short words", |random, numbers, memories| {
+        memories.words.truncate(shorter(random, numbers.lengths().words));
     }),
-    ("short tags", |random, numbers, tables| {
-        tables.tags.truncate(shorter(random, numbers.lengths().tags));
+    ("short words, records missing", |random, numbers, memories| {
+        memories.words.truncate(RECORDS + random.below(4 * numbers.n));
     }),
-    ("short holders", |random, numbers, tables| {
-        tables.holders.truncate(shorter(random, numbers.lengths().holders));
+    ("short words, none at all", |_, _, memories| memories.words.clear()),
+    ("short orders", |random, numbers, memories| {
+        memories.orders.truncate(shorter(random, numbers.lengths().orders));
     }),
-    ("short proposals", |random, numbers, tables| {
-        tables.proposals.truncate(shorter(random, numbers.lengths().proposals));
+    ("short ballots", |random, numbers, memories| {
+        memories.ballots.truncate(shorter(random, numbers.lengths().ballots));
     }),
-    ("short ballots", |random, numbers, tables| {
-        tables.ballots.truncate(shorter(random, numbers.lengths().ballots));
-    }),
-    ("short heard", |random, numbers, tables| {
-        tables.heard.truncate(shorter(random, numbers.lengths().heard));
-    }),
-    ("short logs", |random, numbers, tables| {
-        tables.logs.truncate(shorter(random, numbers.lengths().logs));
-    }),
-    ("short strip", |random, numbers, tables| {
-        tables.strip.truncate(shorter(random, numbers.lengths().strip));
+    ("short strip", |random, numbers, memories| {
+        memories.strip.truncate(shorter(random, numbers.lengths().strip));
     }),
 ];
 
-/// Tables for a run, filled with junk: of exactly the lengths needed, or longer.
-pub fn lent(random: &mut Random, numbers: &Numbers) -> Tables {
-    let mut tables = Tables::of_run(numbers);
+/// Memories for a run, filled with junk: of exactly the lengths needed, or longer.
+pub fn lent(random: &mut Random, numbers: &Numbers) -> Memories {
+    let mut memories = Memories::of_run(numbers);
     if random.one_in(2) {
-        tables.records.resize(tables.records.len() + random.below(7), 0);
-        tables.tags.resize(tables.tags.len() + random.below(3), 0);
-        tables.holders.resize(tables.holders.len() + random.below(3), 0);
-        tables.proposals.resize(tables.proposals.len() + random.below(9), 0);
-        tables.ballots.resize(tables.ballots.len() + random.below(20), 0);
-        tables.heard.resize(tables.heard.len() + random.below(20), 0);
-        tables.logs.resize(tables.logs.len() + random.below(9), 0);
-        tables.strip.resize(tables.strip.len() + random.below(9), 0);
+        memories.words.resize(memories.words.len() + random.below(20), 0);
+        memories.orders.resize(memories.orders.len() + random.below(9), 0);
+        memories.ballots.resize(memories.ballots.len() + random.below(20), 0);
+        memories.strip.resize(memories.strip.len() + random.below(9), 0);
     }
-    junk(random, &mut tables);
-    tables
+    junk(random, &mut memories);
+    memories
 }
 
-fn junk(random: &mut Random, tables: &mut Tables) {
-    tables.known = random.word() as u16;
-    tables.records.fill_with(|| random.word() as u16);
-    tables.tags.fill_with(|| random.word());
-    tables.holders.fill_with(|| random.word() as u16);
-    tables.proposals.fill_with(|| random.word());
-    tables.ballots.fill_with(|| random.word() as u8);
-    tables.heard.fill_with(|| random.word() as u16);
-    tables.logs.fill_with(|| random.word());
-    tables.strip.fill_with(|| random.word() as u8);
+fn junk(random: &mut Random, memories: &mut Memories) {
+    memories.words.fill_with(|| random.word() as u16);
+    memories.orders.fill_with(|| random.word());
+    memories.ballots.fill_with(|| random.word() as u8);
+    memories.strip.fill_with(|| random.word() as u8);
+}
+
+/// The cells of a section that are there; in a short memory it may be cut, or gone.
+fn section<T>(memory: &mut [T], start: usize, end: usize) -> &mut [T] {
+    let length = memory.len();
+    &mut memory[start.min(length)..end.min(length)]
+}
+
+fn holders<'a>(numbers: &Numbers, memories: &'a mut Memories) -> &'a mut [u16] {
+    section(&mut memories.words, numbers.holders_start(), numbers.heard_start())
+}
+
+/// With the words behind the run's part, if there are any.
+fn heard<'a>(numbers: &Numbers, memories: &'a mut Memories) -> &'a mut [u16] {
+    section(&mut memories.words, numbers.heard_start(), usize::MAX)
+}
+
+fn tags<'a>(numbers: &Numbers, memories: &'a mut Memories) -> &'a mut [u64] {
+    section(&mut memories.orders, 0, numbers.proposals_start())
+}
+
+fn proposals<'a>(numbers: &Numbers, memories: &'a mut Memories) -> &'a mut [u64] {
+    section(&mut memories.orders, numbers.proposals_start(), numbers.logs_start())
+}
+
+/// With the orders behind the run's part, if there are any.
+fn logs<'a>(numbers: &Numbers, memories: &'a mut Memories) -> &'a mut [u64] {
+    section(&mut memories.orders, numbers.logs_start(), usize::MAX)
+}
+
+fn set_known(memories: &mut Memories, known: usize) {
+    memories.words.iter_mut().take(RECORDS).for_each(|count| *count = known as u16);
+}
+
+fn above_room(random: &mut Random, numbers: &Numbers) -> usize {
+    random.pick(&[numbers.room + 1, usize::from(u16::MAX)])
 }
 
 /// A record of which each word is within its range, at its end or beyond it.
@@ -172,10 +210,10 @@ fn scatter<T>(random: &mut Random, cells: &mut [T], draw: fn(&mut Random) -> T) 
 }
 
 /// Changes the record of one replica, if it is there.
-fn spoil(random: &mut Random, numbers: &Numbers, tables: &mut Tables, change: impl Fn(Record) -> Record) {
+fn spoil(random: &mut Random, numbers: &Numbers, memories: &mut Memories, change: impl Fn(Record) -> Record) {
     let replica = random.below(numbers.n);
-    if let Some(record) = tables.record(replica) {
-        tables.set_record(replica, change(record));
+    if let Some(record) = memories.record(replica) {
+        memories.set_record(replica, change(record));
     }
 }
 

@@ -3,13 +3,13 @@
 
 use crate::call::Call;
 use crate::coin::PATTERN;
+use crate::memories::{Memories, IDLE};
 use crate::numbers::{
     Message, Numbers, Sort, MOST_PHASES, MOST_REPLICAS, MOST_ROOM, MOST_SLOTS, USUAL_PHASES,
 };
 use crate::random::Random;
 use crate::rules;
 use crate::step_file::{body_length, write_record, REHEARSAL_BYTES};
-use crate::tables::{Tables, IDLE, STATE, VOTE};
 
 /// What differs from one session to the next, so that agreement, quarrel, crashes and stragglers all occur.
 pub struct Habits {
@@ -91,24 +91,24 @@ pub fn start(random: &mut Random) -> usize {
 }
 
 /// A call that the run accepts, if a few draws find one.
-pub fn likely_call(random: &mut Random, numbers: &Numbers, habits: &Habits, tables: &Tables) -> Call {
-    let mut call = drawn_call(random, numbers, habits, tables);
+pub fn likely_call(random: &mut Random, numbers: &Numbers, habits: &Habits, memories: &Memories) -> Call {
+    let mut call = drawn_call(random, numbers, habits, memories);
     for _ in 0..random.below(6) {
-        if call.make(numbers, &mut tables.clone()).is_ok() {
+        if call.make(numbers, &mut memories.clone()).is_ok() {
             break;
         }
-        call = drawn_call(random, numbers, habits, tables);
+        call = drawn_call(random, numbers, habits, memories);
     }
     call
 }
 
-fn drawn_call(random: &mut Random, numbers: &Numbers, habits: &Habits, tables: &Tables) -> Call {
+fn drawn_call(random: &mut Random, numbers: &Numbers, habits: &Habits, memories: &Memories) -> Call {
     let who = random.below(numbers.n);
-    if random.one_in(habits.crash_odds) && (crashed(numbers, tables) < numbers.f || random.one_in(8)) {
+    if random.one_in(habits.crash_odds) && (crashed(numbers, memories) < numbers.f || random.one_in(8)) {
         return Call::Crash { who };
     }
     let tag = habits.tag(random, numbers, who);
-    let idle = tables.record(who).is_none_or(|record| record.round == IDLE);
+    let idle = memories.record(who).is_none_or(|record| record.round == IDLE);
     let straggles = who == habits.straggler;
     match random.below(8) {
         0 if idle => Call::Submit { who, tag },
@@ -116,23 +116,25 @@ fn drawn_call(random: &mut Random, numbers: &Numbers, habits: &Habits, tables: &
         2 | 3 if idle => Call::Begin { who },
         0 if !straggles => Call::Advance { who },
         1 if !straggles || random.one_in(24) => Call::RunOn { who },
-        2 if random.one_in(2) => any_hear(random, numbers, who, tables),
+        2 if random.one_in(2) => any_hear(random, numbers, who, memories),
         3..6 if habits.hasty && !straggles && !idle => Call::Advance { who },
         _ => {
             let narrow = !straggles && !random.one_in(habits.stray_odds);
             let other = match (idle, straggles) {
                 (true, _) => Call::Submit { who, tag },
-                (false, true) => any_hear(random, numbers, who, tables),
+                (false, true) => any_hear(random, numbers, who, memories),
                 (false, false) => Call::Advance { who },
             };
-            unheard(random, numbers, who, narrow, tables).unwrap_or(other)
+            unheard(random, numbers, who, narrow, memories).unwrap_or(other)
         }
     }
 }
 
 /// How many replicas have crashed.
-fn crashed(numbers: &Numbers, tables: &Tables) -> usize {
-    (0..numbers.n).filter(|&replica| tables.record(replica).is_some_and(|record| record.crashed != 0)).count()
+fn crashed(numbers: &Numbers, memories: &Memories) -> usize {
+    (0..numbers.n)
+        .filter(|&replica| memories.record(replica).is_some_and(|record| record.crashed != 0))
+        .count()
 }
 
 /// One of the messages of the receiver's slot that were sent and that it has not heard; if `narrow`, one that its
@@ -142,25 +144,23 @@ fn unheard(
     numbers: &Numbers,
     receiver: usize,
     narrow: bool,
-    tables: &Tables,
+    memories: &Memories,
 ) -> Option<Call> {
-    let record = tables.record(receiver)?;
-    let (slot, current) = (usize::from(record.slot), usize::from(record.phase));
-    if !tables.fit(numbers) || slot >= numbers.slots {
+    let record = memories.record(receiver)?;
+    let slot = usize::from(record.slot);
+    if !memories.fit(numbers) || slot >= numbers.slots {
         return None;
     }
-    let awaited = match record.round {
-        STATE => (Sort::State, current),
-        VOTE => (Sort::Vote, current),
-        _ => (Sort::Proposal, 0),
-    };
     let ballots = (1..=numbers.phases).flat_map(|phase| [(Sort::State, phase), (Sort::Vote, phase)]);
-    let all = ballots.chain([(Sort::Proposal, 0)]).filter(|&message| !narrow || message == awaited);
     let mut calls = Vec::new();
-    for (sort, phase) in all {
+    for (sort, phase) in ballots.chain([(Sort::Proposal, 0)]) {
         let message = Message { sort, slot, phase };
+        if narrow && message != record.awaited() {
+            continue;
+        }
         let wanted = |&sender: &usize| {
-            tables.was_sent(numbers, message, sender) && !tables.was_heard(numbers, message, sender, receiver)
+            memories.was_sent(numbers, message, sender)
+                && !memories.was_heard(numbers, message, sender, receiver)
         };
         let hear = |sender| Call::Hear { receiver, sender, sort: sort as usize, slot, phase };
         calls.extend((0..numbers.n).filter(wanted).map(hear));
@@ -169,8 +169,8 @@ fn unheard(
 }
 
 /// Any message of a low phase, whether it was sent or not, mostly of the receiver's slot.
-fn any_hear(random: &mut Random, numbers: &Numbers, receiver: usize, tables: &Tables) -> Call {
-    let record = tables.record(receiver).unwrap_or_default();
+fn any_hear(random: &mut Random, numbers: &Numbers, receiver: usize, memories: &Memories) -> Call {
+    let record = memories.record(receiver).unwrap_or_default();
     let sender = random.below(numbers.n);
     let sort = random.between(1, 3);
     let slot = if random.one_in(2) { usize::from(record.slot) } else { random.below(numbers.slots) };
@@ -219,17 +219,17 @@ pub fn session(random: &mut Random, most: &Numbers) -> Vec<u8> {
     let mut file = Vec::new();
     write_record(&mut file, &opening);
     let numbers = rules::planned(&plan, start).expect("numbers within the limits");
-    let mut tables = Tables::of_run(&numbers);
-    opening.make(&numbers, &mut tables).expect("tables of the run's lengths");
+    let mut memories = Memories::of_run(&numbers);
+    opening.make(&numbers, &mut memories).expect("memories of the run's lengths");
     let habits = Habits::draw(random, numbers.n);
     for _ in 0..random.pick(&[30, 200, 600, 1200]) {
         let strange = random.one_in(100);
         let call = if strange {
             strange_call(random, &numbers)
         } else {
-            likely_call(random, &numbers, &habits, &tables)
+            likely_call(random, &numbers, &habits, &memories)
         };
-        if call.make(&numbers, &mut tables).is_ok() || random.one_in(16) {
+        if call.make(&numbers, &mut memories).is_ok() || random.one_in(16) {
             write_record(&mut file, &call);
         }
     }

@@ -1,5 +1,5 @@
 //! Document 01's order log, written from the document and apart from the library, and what compares the two: by
-//! whole step files (the program `sessions`) and by direct calls on ordinary and damaged tables (`calls`), and in time
+//! whole step files (the program `sessions`) and by direct calls on ordinary and damaged memories (`calls`), and in time
 //! (`bench`).
 
 #[cfg(feature = "library")]
@@ -15,6 +15,7 @@ pub mod damage;
 pub mod generate;
 #[cfg(feature = "library")]
 pub mod library;
+pub mod memories;
 pub mod numbers;
 pub mod options;
 pub mod random;
@@ -22,5 +23,4 @@ pub mod refusal;
 pub mod rules;
 pub mod script;
 pub mod step_file;
-pub mod tables;
 pub mod tally;

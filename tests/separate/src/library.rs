@@ -1,8 +1,9 @@
-//! The library's calls, as its C header declares them, and safe wrappers over our own tables.
+//! The library's calls, as its C header declares them, and safe wrappers over our own memories.
 
 use crate::call::{Answer, Call};
+use crate::memories::{Memories, Record};
 use crate::numbers::Numbers;
-use crate::tables::{Record, Tables};
+use crate::refusal::Refusal;
 
 #[repr(C)]
 #[derive(Clone, Copy)]
@@ -41,20 +42,15 @@ pub struct Played {
     pub numbers: Numbers,
 }
 
-/// Declares a function of the header that is lent the tables: its arguments before them, and the kind of strip.
+/// Declares a function of the header that is lent the memories: its arguments before them, and the kind of strip.
 macro_rules! lent {
     ($(fn $name:ident($($argument:ident: $kind:ty),*; $strip:ty) -> $answer:ty;)*) => {
         extern "C" {
             $(fn $name(
                 $($argument: $kind,)*
-                records: *mut u16, records_length: usize,
-                known: *mut u16,
-                tags: *mut u64, tags_length: usize,
-                holders: *mut u16, holders_length: usize,
-                proposals: *mut u64, proposals_length: usize,
+                words: *mut u16, words_length: usize,
+                orders: *mut u64, orders_length: usize,
                 ballots: *mut u8, ballots_length: usize,
-                heard: *mut u16, heard_length: usize,
-                logs: *mut u64, logs_length: usize,
                 strip: $strip, strip_length: usize,
             ) -> $answer;)*
         }
@@ -87,24 +83,19 @@ extern "C" {
     fn rushhopper_crash(numbers: Numbers, who: Replica, record: *mut Record) -> usize;
 }
 
-/// Calls a function of the header with the arguments and the tables.
+/// Calls a function of the header with the arguments and the memories.
 ///
-/// Sound: each table is lent as its own pointer and length, none overlaps another, and none is kept by the library.
+/// Sound: each memory is lent as its own pointer and length, none overlaps another, and none is kept by the library.
 macro_rules! lend {
-    ($name:ident($($argument:expr),*), $tables:expr, $strip:ident) => {{
-        let tables: &mut Tables = $tables;
+    ($name:ident($($argument:expr),*), $memories:expr, $strip:ident) => {{
+        let memories: &mut Memories = $memories;
         unsafe {
             $name(
                 $($argument,)*
-                tables.records.as_mut_ptr(), tables.records.len(),
-                &mut tables.known,
-                tables.tags.as_mut_ptr(), tables.tags.len(),
-                tables.holders.as_mut_ptr(), tables.holders.len(),
-                tables.proposals.as_mut_ptr(), tables.proposals.len(),
-                tables.ballots.as_mut_ptr(), tables.ballots.len(),
-                tables.heard.as_mut_ptr(), tables.heard.len(),
-                tables.logs.as_mut_ptr(), tables.logs.len(),
-                tables.strip.$strip(), tables.strip.len(),
+                memories.words.as_mut_ptr(), memories.words.len(),
+                memories.orders.as_mut_ptr(), memories.orders.len(),
+                memories.ballots.as_mut_ptr(), memories.ballots.len(),
+                memories.strip.$strip(), memories.strip.len(),
             )
         }
     }};
@@ -119,55 +110,58 @@ pub fn crash(numbers: &Numbers, who: usize, record: &mut Record) -> usize {
 }
 
 /// Makes the call of the library; the counterpart of `Call::make`.
-pub fn make(call: &Call, numbers: &Numbers, tables: &mut Tables) -> Answer {
+pub fn make(call: &Call, numbers: &Numbers, memories: &mut Memories) -> Answer {
     let numbers = *numbers;
     let refusal = match *call {
-        Call::Open { plan, start } => return open(plan, start, tables),
-        Call::RunOn { who } => return run_on(numbers, who, tables),
+        Call::Open { plan, start } => return open(plan, start, memories),
+        Call::RunOn { who } => return run_on(numbers, who, memories),
         Call::Submit { who, tag } => {
-            lend!(rushhopper_submit(numbers, Replica { number: who }, tag), tables, as_ptr)
+            lend!(rushhopper_submit(numbers, Replica { number: who }, tag), memories, as_ptr)
         }
         Call::Relay { who, tag } => {
-            lend!(rushhopper_relay(numbers, Replica { number: who }, tag), tables, as_ptr)
+            lend!(rushhopper_relay(numbers, Replica { number: who }, tag), memories, as_ptr)
         }
-        Call::Begin { who } => lend!(rushhopper_begin(numbers, Replica { number: who }), tables, as_ptr),
-        Call::Advance { who } => lend!(rushhopper_advance(numbers, Replica { number: who }), tables, as_ptr),
+        Call::Begin { who } => lend!(rushhopper_begin(numbers, Replica { number: who }), memories, as_ptr),
+        Call::Advance { who } => {
+            lend!(rushhopper_advance(numbers, Replica { number: who }), memories, as_ptr)
+        }
         Call::Hear { receiver, sender, sort, slot, phase } => {
             let (receiver, sender) = (Replica { number: receiver }, Replica { number: sender });
             let (slot, phase) = (Slot { index: slot }, Phase { index: phase });
-            lend!(rushhopper_hear(numbers, receiver, sender, sort, slot, phase), tables, as_ptr)
+            lend!(rushhopper_hear(numbers, receiver, sender, sort, slot, phase), memories, as_ptr)
         }
-        Call::Crash { who } => crash_in(&numbers, who, tables),
+        Call::Crash { who } => crash_in(&numbers, who, memories),
     };
     Answer { refusal, ..Answer::default() }
 }
 
-fn open(plan: Numbers, start: usize, tables: &mut Tables) -> Answer {
-    let opened = lend!(rushhopper_open(plan, start), tables, as_mut_ptr);
+fn open(plan: Numbers, start: usize, memories: &mut Memories) -> Answer {
+    let opened = lend!(rushhopper_open(plan, start), memories, as_mut_ptr);
     Answer { refusal: opened.refusal, numbers: opened.numbers, advances: 0 }
 }
 
-fn run_on(numbers: Numbers, who: usize, tables: &mut Tables) -> Answer {
-    let ran = lend!(rushhopper_run_on(numbers, Replica { number: who }), tables, as_ptr);
+fn run_on(numbers: Numbers, who: usize, memories: &mut Memories) -> Answer {
+    let ran = lend!(rushhopper_run_on(numbers, Replica { number: who }), memories, as_ptr);
     Answer { refusal: ran.refusal, advances: ran.advances, ..Answer::default() }
 }
 
-/// Lent the record that the tables have of the replica, or a blank one; what becomes of it goes back, also after a
-/// refusal.
-fn crash_in(numbers: &Numbers, who: usize, tables: &mut Tables) -> usize {
-    let lent = tables.record(who);
+/// As the header's `rushhopper_crash_in`, and what becomes of the record goes back also after a refusal.
+fn crash_in(numbers: &Numbers, who: usize, memories: &mut Memories) -> usize {
+    let lent = memories.record(who);
     let mut record = lent.unwrap_or_default();
     let refusal = crash(numbers, who, &mut record);
-    if lent.is_some() {
-        tables.set_record(who, record);
+    match lent {
+        Some(_) => memories.set_record(who, record),
+        None if refusal == 0 => return Refusal::ShortTable.number(),
+        None => {}
     }
     refusal
 }
 
-pub fn play(most: &Numbers, file: &[u8], report: &mut [u8], tables: &mut Tables) -> Played {
+pub fn play(most: &Numbers, file: &[u8], report: &mut [u8], memories: &mut Memories) -> Played {
     lend!(
         rushhopper_play(*most, file.as_ptr(), file.len(), report.as_mut_ptr(), report.len()),
-        tables,
+        memories,
         as_mut_ptr
     )
 }

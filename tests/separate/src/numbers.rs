@@ -1,4 +1,4 @@
-//! The numbers of a run, their limits, and where its cells stand in the lent tables.
+//! The numbers of a run, their limits, and where its cells stand in the lent memories.
 
 /// "Controllers n: 1 to 15, numbered from 0."
 pub const MOST_REPLICAS: usize = 15;
@@ -26,15 +26,14 @@ pub struct Numbers {
 pub const LARGEST: Numbers =
     Numbers { n: MOST_REPLICAS, f: 7, slots: MOST_SLOTS, phases: MOST_PHASES, room: MOST_ROOM };
 
-/// How many elements of each table a run needs.
+/// Where the records start in the words: cell 0 is the count of known tags.
+pub const RECORDS: usize = 1;
+
+/// How many elements of each memory, and of the strip, a run needs.
 pub struct Lengths {
-    pub records: usize,
-    pub tags: usize,
-    pub holders: usize,
-    pub proposals: usize,
+    pub words: usize,
+    pub orders: usize,
     pub ballots: usize,
-    pub heard: usize,
-    pub logs: usize,
     pub strip: usize,
 }
 
@@ -47,7 +46,7 @@ pub enum Sort {
 }
 
 /// What a message is about; with its sender it is a single one. A proposal's phase is 0.
-#[derive(Clone, Copy)]
+#[derive(Clone, Copy, PartialEq, Eq)]
 pub struct Message {
     pub sort: Sort,
     pub slot: usize,
@@ -77,32 +76,56 @@ impl Numbers {
     /// Only for numbers within the limits; larger ones could wrap.
     pub fn lengths(&self) -> Lengths {
         Lengths {
-            records: 4 * self.n,
-            tags: self.room,
-            holders: self.room,
-            proposals: self.slots * self.n,
+            words: self.heard_start() + self.slots * (2 * self.phases + 1) * self.n,
+            orders: self.logs_start() + self.n * self.slots,
             ballots: self.slots * 2 * self.phases * self.n,
-            heard: self.slots * (2 * self.phases + 1) * self.n,
-            logs: self.n * self.slots,
             strip: self.slots * self.phases,
         }
     }
 
-    pub fn proposal_cell(&self, slot: usize, sender: usize) -> usize {
-        slot * self.n + sender
+    /// In the words, behind the records.
+    pub fn holders_start(&self) -> usize {
+        RECORDS + 4 * self.n
     }
 
-    /// Of a state or vote. Proposals stand elsewhere, so the rows start one lower than those of `heard`.
+    /// In the words, behind the holders.
+    pub fn heard_start(&self) -> usize {
+        self.holders_start() + self.room
+    }
+
+    /// In the orders, behind the tags.
+    pub fn proposals_start(&self) -> usize {
+        self.room
+    }
+
+    /// In the orders, behind the proposals.
+    pub fn logs_start(&self) -> usize {
+        self.proposals_start() + self.slots * self.n
+    }
+
+    /// In the words: the mask of those who hold the tag at this place.
+    pub fn holder_cell(&self, place: usize) -> usize {
+        self.holders_start() + place
+    }
+
+    /// In the words: the mask of those who have heard the message.
+    pub fn heard_cell(&self, message: Message, sender: usize) -> usize {
+        self.heard_start() + (message.slot * (2 * self.phases + 1) + message.row()) * self.n + sender
+    }
+
+    /// In the orders.
+    pub fn proposal_cell(&self, slot: usize, sender: usize) -> usize {
+        self.proposals_start() + slot * self.n + sender
+    }
+
+    /// In the orders.
+    pub fn log_cell(&self, replica: usize, slot: usize) -> usize {
+        self.logs_start() + replica * self.slots + slot
+    }
+
+    /// Of a state or vote. Proposals stand elsewhere, so the rows start one lower than those of the heard masks.
     pub fn ballot_cell(&self, message: Message, sender: usize) -> usize {
         (message.slot * 2 * self.phases + message.row() - 1) * self.n + sender
-    }
-
-    pub fn heard_cell(&self, message: Message, sender: usize) -> usize {
-        (message.slot * (2 * self.phases + 1) + message.row()) * self.n + sender
-    }
-
-    pub fn log_cell(&self, replica: usize, slot: usize) -> usize {
-        replica * self.slots + slot
     }
 
     pub fn coin_cell(&self, slot: usize, phase: usize) -> usize {
@@ -111,12 +134,37 @@ impl Numbers {
 }
 
 impl Message {
-    /// The row of a slot's `heard` masks.
+    /// The row of a slot's heard masks.
     fn row(&self) -> usize {
         match self.sort {
             Sort::Proposal => 0,
             Sort::State => 2 * self.phase - 1,
             Sort::Vote => 2 * self.phase,
         }
+    }
+}
+
+#[cfg(test)]
+mod tests {
+    use super::*;
+
+    const NUMBERS: Numbers = Numbers { n: 3, f: 1, slots: 2, phases: 4, room: 5 };
+
+    /// Counted out by hand: 1 + 12 + 5 + 54 words, 5 + 6 + 6 orders, 48 ballots, 8 coins.
+    #[test]
+    fn lengths_of_a_small_run() {
+        let Lengths { words, orders, ballots, strip } = NUMBERS.lengths();
+        assert_eq!((words, orders, ballots, strip), (72, 17, 48, 8));
+    }
+
+    #[test]
+    fn sections_stand_one_behind_the_other() {
+        let vote = Message { sort: Sort::Vote, slot: 1, phase: 4 };
+        assert_eq!((NUMBERS.holder_cell(0), NUMBERS.holder_cell(4)), (13, 17));
+        assert_eq!(NUMBERS.heard_cell(Message { sort: Sort::Proposal, slot: 0, phase: 0 }, 0), 18);
+        assert_eq!((NUMBERS.heard_cell(vote, 2), NUMBERS.ballot_cell(vote, 2)), (71, 47));
+        assert_eq!((NUMBERS.proposal_cell(0, 0), NUMBERS.proposal_cell(1, 2)), (5, 10));
+        assert_eq!((NUMBERS.log_cell(0, 0), NUMBERS.log_cell(2, 1)), (11, 16));
+        assert_eq!((NUMBERS.coin_cell(0, 1), NUMBERS.coin_cell(1, 4)), (0, 7));
     }
 }

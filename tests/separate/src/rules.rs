@@ -1,9 +1,9 @@
-//! The calls of document 01 over lent tables. A refused call changes nothing.
+//! The calls of document 01 over lent memories. A refused call changes nothing.
 
 use crate::coin::{self, PATTERN};
+use crate::memories::{bit, Memories, Record, EXCHANGE, FIND, IDLE, ONE, STATE, UNDECIDED, VOTE, ZERO};
 use crate::numbers::{Message, Numbers, Sort, USUAL_PHASES};
 use crate::refusal::Refusal;
-use crate::tables::{bit, Record, Tables, EXCHANGE, FIND, IDLE, ONE, STATE, UNDECIDED, VOTE, ZERO};
 
 /// What an accepted submit found.
 #[derive(Clone, Copy, Debug, PartialEq, Eq)]
@@ -42,13 +42,13 @@ pub struct Ran {
 }
 
 /// "Opening: 1, 2." Answers the numbers of the run, in which a phase limit of 0 has become 8.
-pub fn open(plan: &Numbers, start: usize, tables: &mut Tables) -> Result<Numbers, Refusal> {
+pub fn open(plan: &Numbers, start: usize, memories: &mut Memories) -> Result<Numbers, Refusal> {
     let numbers = planned(plan, start)?;
-    if !tables.fit(&numbers) {
+    if !memories.fit(&numbers) {
         return Err(Refusal::ShortTable);
     }
-    tables.clear(&numbers);
-    coin::fill(numbers.slots, numbers.phases, start, &mut tables.strip);
+    memories.clear(&numbers);
+    coin::fill(numbers.slots, numbers.phases, start, &mut memories.strip);
     Ok(numbers)
 }
 
@@ -64,61 +64,66 @@ pub fn planned(plan: &Numbers, start: usize) -> Result<Numbers, Refusal> {
 }
 
 /// "Steps: 3, 2, 4, 5". The first of the replicas named is the acting one; its record is the answer.
-fn admit(numbers: &Numbers, named: &[usize], tables: &Tables) -> Result<Record, Refusal> {
-    if !numbers.within_limits() || tables.are_spoiled(numbers) {
+fn admit(numbers: &Numbers, named: &[usize], memories: &Memories) -> Result<Record, Refusal> {
+    if !numbers.within_limits() || memories.are_spoiled(numbers) {
         return Err(Refusal::SpoiledRecord);
     }
-    if !tables.fit(numbers) {
+    if !memories.fit(numbers) {
         return Err(Refusal::ShortTable);
     }
     if named.iter().any(|&replica| replica >= numbers.n) {
         return Err(Refusal::NoSuchBench);
     }
-    match tables.record(named[0]) {
+    match memories.record(named[0]) {
         Some(record) if record.crashed == 0 => Ok(record),
         _ => Err(Refusal::Dark),
     }
 }
 
 /// "the tag becomes known, if it wasn't, and this controller holds it."
-pub fn submit(numbers: &Numbers, who: usize, tag: u64, tables: &mut Tables) -> Result<Submitted, Refusal> {
-    admit(numbers, &[who], tables)?;
+pub fn submit(
+    numbers: &Numbers,
+    who: usize,
+    tag: u64,
+    memories: &mut Memories,
+) -> Result<Submitted, Refusal> {
+    admit(numbers, &[who], memories)?;
     if tag == 0 {
         return Err(Refusal::BlankTag);
     }
-    if tables.holds(who, tag) {
+    if memories.holds(numbers, who, tag) {
         return Err(Refusal::Held);
     }
-    match tables.place(tag) {
+    match memories.place(tag) {
         Some(place) => {
-            tables.holders[place] |= bit(who);
+            memories.hold(numbers, place, who);
             Ok(Submitted::Known)
         }
-        None if usize::from(tables.known) == numbers.room => Err(Refusal::TagRoomFull),
+        None if memories.known() == numbers.room => Err(Refusal::TagRoomFull),
         None => {
-            tables.add_tag(tag, who);
+            memories.add_tag(numbers, tag, who);
             Ok(Submitted::New)
         }
     }
 }
 
 /// "a known tag is held by one more controller."
-pub fn relay(numbers: &Numbers, who: usize, tag: u64, tables: &mut Tables) -> Result<(), Refusal> {
-    admit(numbers, &[who], tables)?;
+pub fn relay(numbers: &Numbers, who: usize, tag: u64, memories: &mut Memories) -> Result<(), Refusal> {
+    admit(numbers, &[who], memories)?;
     if tag == 0 {
         return Err(Refusal::BlankTag);
     }
-    let place = tables.place(tag).ok_or(Refusal::UnknownTag)?;
-    if tables.holds(who, tag) {
+    let place = memories.place(tag).ok_or(Refusal::UnknownTag)?;
+    if memories.holds(numbers, who, tag) {
         return Err(Refusal::Held);
     }
-    tables.holders[place] |= bit(who);
+    memories.hold(numbers, place, who);
     Ok(())
 }
 
 /// "an idle controller proposes its smallest pending tag and enters the exchange." Answers that tag.
-pub fn begin(numbers: &Numbers, who: usize, tables: &mut Tables) -> Result<u64, Refusal> {
-    let record = admit(numbers, &[who], tables)?;
+pub fn begin(numbers: &Numbers, who: usize, memories: &mut Memories) -> Result<u64, Refusal> {
+    let record = admit(numbers, &[who], memories)?;
     if record.round != IDLE {
         return Err(Refusal::Busy);
     }
@@ -126,9 +131,9 @@ pub fn begin(numbers: &Numbers, who: usize, tables: &mut Tables) -> Result<u64, 
     if slot == numbers.slots {
         return Err(Refusal::LogFull);
     }
-    let tag = tables.smallest_pending(numbers, who, slot).ok_or(Refusal::NothingPending)?;
-    tables.send_proposal(numbers, slot, who, tag);
-    tables.set_record(who, Record { round: EXCHANGE, phase: 0, ..record });
+    let tag = memories.smallest_pending(numbers, who, slot).ok_or(Refusal::NothingPending)?;
+    memories.send_proposal(numbers, slot, who, tag);
+    memories.set_record(who, Record { round: EXCHANGE, phase: 0, ..record });
     Ok(tag)
 }
 
@@ -140,17 +145,17 @@ pub fn hear(
     sort: usize,
     slot: usize,
     phase: usize,
-    tables: &mut Tables,
+    memories: &mut Memories,
 ) -> Result<(), Refusal> {
-    admit(numbers, &[receiver, sender], tables)?;
+    admit(numbers, &[receiver, sender], memories)?;
     let message = message(numbers, sort, slot, phase).ok_or(Refusal::NoSuchMessage)?;
-    if !tables.was_sent(numbers, message, sender) {
+    if !memories.was_sent(numbers, message, sender) {
         return Err(Refusal::Unsent);
     }
-    if tables.was_heard(numbers, message, sender, receiver) {
+    if memories.was_heard(numbers, message, sender, receiver) {
         return Err(Refusal::Heard);
     }
-    tables.heard[numbers.heard_cell(message, sender)] |= bit(receiver);
+    memories.words[numbers.heard_cell(message, sender)] |= bit(receiver);
     Ok(())
 }
 
@@ -167,20 +172,20 @@ fn message(numbers: &Numbers, sort: usize, slot: usize, phase: usize) -> Option<
 }
 
 /// One step by the round that the replica is in.
-pub fn advance(numbers: &Numbers, who: usize, tables: &mut Tables) -> Result<Advanced, Refusal> {
-    let record = admit(numbers, &[who], tables)?;
-    advance_from(numbers, who, record, tables)
+pub fn advance(numbers: &Numbers, who: usize, memories: &mut Memories) -> Result<Advanced, Refusal> {
+    let record = admit(numbers, &[who], memories)?;
+    advance_from(numbers, who, record, memories)
 }
 
 /// "advance repeatedly until a slot is closed or the next advance is refused". No accepted advance spoils a record
 /// or crashes a replica, so only the first needs to be admitted.
-pub fn run_on(numbers: &Numbers, who: usize, tables: &mut Tables) -> Result<Ran, Refusal> {
-    let record = admit(numbers, &[who], tables)?;
-    let mut last = advance_from(numbers, who, record, tables)?;
+pub fn run_on(numbers: &Numbers, who: usize, memories: &mut Memories) -> Result<Ran, Refusal> {
+    let record = admit(numbers, &[who], memories)?;
+    let mut last = advance_from(numbers, who, record, memories)?;
     let mut advances = 1;
     while !last.closes() {
-        let record = tables.record(who).unwrap_or_default();
-        match advance_from(numbers, who, record, tables) {
+        let record = memories.record(who).unwrap_or_default();
+        match advance_from(numbers, who, record, memories) {
             Ok(next) => last = next,
             Err(refusal) => return Ok(Ran { advances, stop: Stop::Refused(refusal) }),
         }
@@ -199,32 +204,37 @@ fn advance_from(
     numbers: &Numbers,
     who: usize,
     record: Record,
-    tables: &mut Tables,
+    memories: &mut Memories,
 ) -> Result<Advanced, Refusal> {
     match record.round {
-        EXCHANGE => exchange(numbers, who, record, tables),
-        STATE => vote(numbers, who, record, tables),
-        VOTE => count_votes(numbers, who, record, tables),
-        FIND => find(numbers, who, record, tables),
+        EXCHANGE => exchange(numbers, who, record, memories),
+        STATE => vote(numbers, who, record, memories),
+        VOTE => count_votes(numbers, who, record, memories),
+        FIND => find(numbers, who, record, memories),
         _ => Err(Refusal::Idle),
     }
 }
 
 /// "its state is 1 if one tag has a majority among them, else 0."
-fn exchange(numbers: &Numbers, who: usize, record: Record, tables: &mut Tables) -> Result<Advanced, Refusal> {
+fn exchange(
+    numbers: &Numbers,
+    who: usize,
+    record: Record,
+    memories: &mut Memories,
+) -> Result<Advanced, Refusal> {
     let slot = usize::from(record.slot);
-    if tables.heard_proposals(numbers, slot, who).count() < numbers.quorum() {
+    if memories.heard_proposals(numbers, slot, who).count() < numbers.quorum() {
         return Err(Refusal::TooFewHeard);
     }
-    let state = if majority_tag(numbers, who, slot, tables).is_some() { ONE } else { ZERO };
-    send_state(numbers, who, Record { phase: 1, ..record }, state, tables);
+    let state = if majority_tag(numbers, who, slot, memories).is_some() { ONE } else { ZERO };
+    send_state(numbers, who, Record { phase: 1, ..record }, state, memories);
     Ok(Advanced::Exchanged(state))
 }
 
 /// "it votes for the value with a majority, else `?`."
-fn vote(numbers: &Numbers, who: usize, record: Record, tables: &mut Tables) -> Result<Advanced, Refusal> {
+fn vote(numbers: &Numbers, who: usize, record: Record, memories: &mut Memories) -> Result<Advanced, Refusal> {
     let (slot, phase) = (usize::from(record.slot), usize::from(record.phase));
-    let states = tables.count(numbers, Message { sort: Sort::State, slot, phase }, who);
+    let states = memories.count(numbers, Message { sort: Sort::State, slot, phase }, who);
     if states.total() < numbers.quorum() {
         return Err(Refusal::TooFewHeard);
     }
@@ -235,8 +245,8 @@ fn vote(numbers: &Numbers, who: usize, record: Record, tables: &mut Tables) -> R
     } else {
         UNDECIDED
     };
-    tables.send_ballot(numbers, Message { sort: Sort::Vote, slot, phase }, who, vote);
-    tables.set_record(who, Record { round: VOTE, ..record });
+    memories.send_ballot(numbers, Message { sort: Sort::Vote, slot, phase }, who, vote);
+    memories.set_record(who, Record { round: VOTE, ..record });
     Ok(Advanced::Voted(vote))
 }
 
@@ -246,75 +256,75 @@ fn count_votes(
     numbers: &Numbers,
     who: usize,
     record: Record,
-    tables: &mut Tables,
+    memories: &mut Memories,
 ) -> Result<Advanced, Refusal> {
     let (slot, phase) = (usize::from(record.slot), usize::from(record.phase));
-    let votes = tables.count(numbers, Message { sort: Sort::Vote, slot, phase }, who);
+    let votes = memories.count(numbers, Message { sort: Sort::Vote, slot, phase }, who);
     if votes.total() < numbers.quorum() {
         return Err(Refusal::TooFewHeard);
     }
     if votes.zeros > numbers.f {
-        close(numbers, who, record, 0, tables);
+        close(numbers, who, record, 0, memories);
         return Ok(Advanced::ClosedEmpty);
     }
     if votes.ones > numbers.f {
-        return Ok(close_with_majority(numbers, who, record, tables));
+        return Ok(close_with_majority(numbers, who, record, memories));
     }
     if phase == numbers.phases {
         return Err(Refusal::PhasesUsedUp);
     }
     let voted = votes.any_value();
-    let state = voted.unwrap_or_else(|| coin(numbers, slot, phase, tables));
-    send_state(numbers, who, Record { phase: record.phase + 1, ..record }, state, tables);
+    let state = voted.unwrap_or_else(|| coin(numbers, slot, phase, memories));
+    send_state(numbers, who, Record { phase: record.phase + 1, ..record }, state, memories);
     Ok(if voted.is_some() { Advanced::NextByVote(state) } else { Advanced::NextByCoin(state) })
 }
 
 /// "where none has, the controller enters the find round, and later advances try again."
-fn find(numbers: &Numbers, who: usize, record: Record, tables: &mut Tables) -> Result<Advanced, Refusal> {
+fn find(numbers: &Numbers, who: usize, record: Record, memories: &mut Memories) -> Result<Advanced, Refusal> {
     let slot = usize::from(record.slot);
-    let tag = majority_tag(numbers, who, slot, tables).ok_or(Refusal::TooFewHeard)?;
-    close(numbers, who, record, tag, tables);
+    let tag = majority_tag(numbers, who, slot, memories).ok_or(Refusal::TooFewHeard)?;
+    close(numbers, who, record, tag, memories);
     Ok(Advanced::Found(tag))
 }
 
 /// "Outcome 1 closes it with the tag that has a majority among the proposals heard".
-fn close_with_majority(numbers: &Numbers, who: usize, record: Record, tables: &mut Tables) -> Advanced {
-    match majority_tag(numbers, who, usize::from(record.slot), tables) {
+fn close_with_majority(numbers: &Numbers, who: usize, record: Record, memories: &mut Memories) -> Advanced {
+    match majority_tag(numbers, who, usize::from(record.slot), memories) {
         Some(tag) => {
-            close(numbers, who, record, tag, tables);
+            close(numbers, who, record, tag, memories);
             Advanced::ClosedWith(tag)
         }
         None => {
-            tables.set_record(who, Record { round: FIND, ..record });
+            memories.set_record(who, Record { round: FIND, ..record });
             Advanced::EnteredFind
         }
     }
 }
 
-fn majority_tag(numbers: &Numbers, who: usize, slot: usize, tables: &Tables) -> Option<u64> {
-    let heard = tables.heard_proposals(numbers, slot, who);
+fn majority_tag(numbers: &Numbers, who: usize, slot: usize, memories: &Memories) -> Option<u64> {
+    let heard = memories.heard_proposals(numbers, slot, who);
     heard.clone().find(|&tag| heard.clone().filter(|&other| other == tag).count() >= numbers.majority())
 }
 
 /// "even is 0, odd is 1."
-fn coin(numbers: &Numbers, slot: usize, phase: usize, tables: &Tables) -> u8 {
-    match tables.strip[numbers.coin_cell(slot, phase)] % 2 {
+fn coin(numbers: &Numbers, slot: usize, phase: usize, memories: &Memories) -> u8 {
+    match memories.strip[numbers.coin_cell(slot, phase)] % 2 {
         0 => ZERO,
         _ => ONE,
     }
 }
 
 /// Sends the state of the record's slot and phase.
-fn send_state(numbers: &Numbers, who: usize, record: Record, state: u8, tables: &mut Tables) {
+fn send_state(numbers: &Numbers, who: usize, record: Record, state: u8, memories: &mut Memories) {
     let (slot, phase) = (usize::from(record.slot), usize::from(record.phase));
-    tables.send_ballot(numbers, Message { sort: Sort::State, slot, phase }, who, state);
-    tables.set_record(who, Record { round: STATE, ..record });
+    memories.send_ballot(numbers, Message { sort: Sort::State, slot, phase }, who, state);
+    memories.set_record(who, Record { round: STATE, ..record });
 }
 
 /// The phase stays in the record.
-fn close(numbers: &Numbers, who: usize, record: Record, entry: u64, tables: &mut Tables) {
-    tables.logs[numbers.log_cell(who, usize::from(record.slot))] = entry;
-    tables.set_record(who, Record { round: IDLE, slot: record.slot + 1, ..record });
+fn close(numbers: &Numbers, who: usize, record: Record, entry: u64, memories: &mut Memories) {
+    memories.orders[numbers.log_cell(who, usize::from(record.slot))] = entry;
+    memories.set_record(who, Record { round: IDLE, slot: record.slot + 1, ..record });
 }
 
 /// "A crash step is lent one controller's record and darkens it there." One of a number n or more may be lent any

@@ -1,9 +1,9 @@
-//! Scripted runs for the benchmark: the same accepted calls every time, kept as tables and as a step file.
+//! Scripted runs for the benchmark: the same accepted calls every time, kept as memories and as a step file.
 
 use crate::call::Call;
+use crate::memories::Memories;
 use crate::numbers::{Numbers, Sort};
 use crate::step_file::write_record;
-use crate::tables::Tables;
 
 /// How far a run has come when a call is measured.
 #[derive(Clone, Copy, Debug, PartialEq, Eq)]
@@ -14,7 +14,7 @@ pub struct Fill {
 
 pub struct Script {
     pub numbers: Numbers,
-    pub tables: Tables,
+    pub memories: Memories,
     pub file: Vec<u8>,
 }
 
@@ -25,8 +25,8 @@ pub fn order(second: usize) -> u64 {
 
 impl Script {
     pub fn open(numbers: &Numbers) -> Script {
-        let tables = Tables::of_run(numbers);
-        let mut script = Script { numbers: *numbers, tables, file: Vec::new() };
+        let memories = Memories::of_run(numbers);
+        let mut script = Script { numbers: *numbers, memories, file: Vec::new() };
         script.step(Call::Open { plan: *numbers, start: 0 });
         script
     }
@@ -54,13 +54,13 @@ impl Script {
 
     /// A refused call would leave the script in another state than its name says.
     fn step(&mut self, call: Call) {
-        let result = call.make(&self.numbers, &mut self.tables);
+        let result = call.make(&self.numbers, &mut self.memories);
         assert!(result.is_ok(), "{call:?} of a script: {result:?}");
         write_record(&mut self.file, &call);
     }
 
     pub fn slot(&self, who: usize) -> usize {
-        self.tables.record(who).map_or(0, |record| usize::from(record.slot))
+        self.memories.record(who).map_or(0, |record| usize::from(record.slot))
     }
 
     /// Submitted at the first of these replicas and relayed to the others.

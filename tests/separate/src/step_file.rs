@@ -1,10 +1,10 @@
 //! Step files: writing and reading their records, playing them, and the report of the rehearsal program.
 
 use crate::call::{Call, Done};
+use crate::memories::Memories;
 use crate::numbers::Numbers;
 use crate::refusal::Refusal;
 use crate::rules;
-use crate::tables::Tables;
 use std::io::Write;
 
 /// The rehearsal program has "tables for 7 controllers, 16 slots, 8 phases and 64 tags".
@@ -21,20 +21,20 @@ pub struct Played {
 /// What the rehearsal program writes for this input.
 pub fn report(input: &[u8]) -> Vec<u8> {
     let taken = &input[..input.len().min(REHEARSAL_BYTES)];
-    play(&REHEARSAL, taken, &mut Tables::of_run(&REHEARSAL)).report
+    play(&REHEARSAL, taken, &mut Memories::of_run(&REHEARSAL)).report
 }
 
-/// Plays a step file on tables for at most the numbers `most`.
-pub fn play(most: &Numbers, file: &[u8], tables: &mut Tables) -> Played {
-    play_seen(most, file, tables, |_, _, _| ())
+/// Plays a step file on memories for at most the numbers `most`.
+pub fn play(most: &Numbers, file: &[u8], memories: &mut Memories) -> Played {
+    play_seen(most, file, memories, |_, _, _| ())
 }
 
-/// As `play`; `seen` is shown each whole record, what came of it and the tables after it.
+/// As `play`; `seen` is shown each whole record, what came of it and the memories after it.
 pub fn play_seen(
     most: &Numbers,
     file: &[u8],
-    tables: &mut Tables,
-    mut seen: impl FnMut(&Call, &Result<Done, Refusal>, &Tables),
+    memories: &mut Memories,
+    mut seen: impl FnMut(&Call, &Result<Done, Refusal>, &Memories),
 ) -> Played {
     let mut played = Played { opened: None, report: Vec::new() };
     let mut place = 0;
@@ -50,31 +50,31 @@ pub fn play_seen(
             }
         };
         place = next;
-        let result = played.take(most, &call, tables);
+        let result = played.take(most, &call, memories);
         if let Err(refusal) = result {
             played.refused(number, refusal);
         }
-        seen(&call, &result, tables);
+        seen(&call, &result, memories);
     }
-    played.benches(tables);
+    played.benches(memories);
     played
 }
 
 impl Played {
     /// "step before an accepted opening, or opening after one" is out of place; else the record is the call it makes.
-    fn take(&mut self, most: &Numbers, call: &Call, tables: &mut Tables) -> Result<Done, Refusal> {
+    fn take(&mut self, most: &Numbers, call: &Call, memories: &mut Memories) -> Result<Done, Refusal> {
         match (*call, self.opened) {
             (Call::Open { plan, start }, None) => {
                 if is_larger(&rules::planned(&plan, start)?, most) {
                     return Err(Refusal::ShortTable);
                 }
-                let numbers = rules::open(&plan, start, tables)?;
+                let numbers = rules::open(&plan, start, memories)?;
                 self.opened = Some(numbers);
                 self.line(format_args!("controllers {} spare {}", numbers.n, numbers.f));
                 Ok(Done::Opened(numbers))
             }
             (Call::Open { .. }, Some(_)) | (_, None) => Err(Refusal::OutOfPlace),
-            (_, Some(numbers)) => call.make(&numbers, tables),
+            (_, Some(numbers)) => call.make(&numbers, memories),
         }
     }
 
@@ -83,14 +83,13 @@ impl Played {
     }
 
     /// "at the end, if opened, a line per controller".
-    fn benches(&mut self, tables: &Tables) {
+    fn benches(&mut self, memories: &Memories) {
         let Some(numbers) = self.opened else { return };
         for replica in 0..numbers.n {
-            let record = tables.record(replica).unwrap_or_default();
+            let record = memories.record(replica).unwrap_or_default();
             let light = if record.crashed == 0 { "lit" } else { "dark" };
-            let log = numbers.log_cell(replica, 0);
-            let entries: String =
-                tables.logs[log..log + usize::from(record.slot)].iter().map(entry).collect();
+            let log = memories.log(&numbers, replica, record.slot.into());
+            let entries: String = log.iter().map(entry).collect();
             self.line(format_args!("bench {replica} {light} {}{entries}", record.slot));
         }
     }
@@ -108,7 +107,7 @@ fn entry(tag: &u64) -> String {
     }
 }
 
-/// "larger openings get refusal 2", also where a table happens to be long enough.
+/// "larger openings get refusal 2", also where the memories happen to be long enough.
 fn is_larger(numbers: &Numbers, most: &Numbers) -> bool {
     numbers.n > most.n
         || numbers.slots > most.slots

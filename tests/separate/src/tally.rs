@@ -1,9 +1,9 @@
 //! Counts what the generated inputs met, so that a comparison which never met something says so.
 
 use crate::call::{Call, Done};
+use crate::memories::{Memories, ONE, UNDECIDED, ZERO};
 use crate::refusal::Refusal;
 use crate::rules::{Advanced, Ran, Stop, Submitted};
-use crate::tables::{Tables, ONE, UNDECIDED, ZERO};
 use std::collections::BTreeMap;
 use std::process::ExitCode;
 
@@ -76,15 +76,15 @@ impl Tally {
         code
     }
 
-    /// Notes the events of an accepted call; `tables` are those after it.
-    pub fn note_events(&mut self, call: &Call, done: &Done, tables: &Tables) {
+    /// Notes the events of an accepted call; `memories` are those after it.
+    pub fn note_events(&mut self, call: &Call, done: &Done, memories: &Memories) {
         match *done {
             Done::Opened(_) => self.note_opening(call),
             Done::Submitted(Submitted::New) => self.note("submitted new"),
             Done::Submitted(Submitted::Known) => self.note("submitted known"),
             Done::Relayed => self.note("relayed"),
             Done::Begun(_) => self.note("proposed"),
-            Done::Heard => self.note_hear(call, tables),
+            Done::Heard => self.note_hear(call, memories),
             Done::Advanced(advanced) => self.note(advance_event(advanced)),
             Done::Crashed => self.note("crashed"),
             Done::RanOn(ran) => self.note_run_on(ran),
@@ -108,10 +108,10 @@ impl Tally {
         }
     }
 
-    fn note_hear(&mut self, call: &Call, tables: &Tables) {
+    fn note_hear(&mut self, call: &Call, memories: &Memories) {
         let Call::Hear { receiver, sender, sort, slot, phase } = *call else { return };
         self.note(["heard proposal", "heard state", "heard vote"][sort - 1]);
-        let record = |replica| tables.record(replica).unwrap_or_default();
+        let record = |replica| memories.record(replica).unwrap_or_default();
         if record(sender).crashed != 0 {
             self.note("heard from a crashed sender");
         }

@@ -1,5 +1,5 @@
 //! `calls [--seed N] [--runs K]`: at least K direct calls of the library beside the separate implementation, on
-//! ordinary and damaged tables. Answers, values and every cell of every table must be equal after each, and each
+//! ordinary and damaged memories. Answers, values and every cell of every memory must be equal after each, and each
 //! refusal of each call, each event and each kind of damage must have occurred.
 
 use separate::call::{Call, Done};
@@ -11,12 +11,14 @@ use separate::generate::{
     wild_session, Habits,
 };
 use separate::library;
-use separate::numbers::{Numbers, LARGEST, MOST_PHASES, MOST_REPLICAS, MOST_SLOTS, USUAL_PHASES};
+use separate::memories::Memories;
+use separate::numbers::{
+    Message, Numbers, Sort, LARGEST, MOST_PHASES, MOST_REPLICAS, MOST_SLOTS, USUAL_PHASES,
+};
 use separate::options::number;
 use separate::random::Random;
 use separate::refusal::Refusal;
 use separate::rules;
-use separate::tables::Tables;
 use separate::tally::{Tally, EVENTS};
 use std::process::ExitCode;
 
@@ -30,8 +32,11 @@ const REFUSALS: [(&str, &[usize]); 9] = [
     ("hear", &[0, 2, 3, 4, 5, 16, 17, 18]),
     ("advance", &[0, 2, 3, 4, 5, 13, 14, 15]),
     ("run on", &[0, 2, 3, 4, 5, 13, 14, 15]),
-    ("crash", &[0, 3, 4, 5]),
+    ("crash", &[0, 2, 3, 4, 5]),
 ];
+
+/// Events of damaged memories only: an own message counts as heard, and its mark is missing.
+const UNMARKED: [&str; 2] = ["advanced without its own mark", "refused 18 without its own mark"];
 
 /// Most runs are small, so that they end; some have the usual phases or masks of 15 bits; a few are the largest.
 const SMALL: Numbers = Numbers { n: 5, f: 2, slots: 3, phases: 4, room: 6 };
@@ -66,7 +71,8 @@ fn expected() -> impl Iterator<Item = String> {
     });
     let damages = DAMAGES.iter().map(|(name, _)| format!("damage: {name}"));
     let others = ["other numbers than the run's", "played a step file"];
-    refusals.chain(EVENTS.into_iter().chain(others).map(str::to_string)).chain(damages)
+    let events = EVENTS.into_iter().chain(others).chain(UNMARKED);
+    refusals.chain(events.map(str::to_string)).chain(damages)
 }
 
 fn answer_name(call: &str, refusal: usize) -> String {
@@ -96,10 +102,10 @@ fn compare_pattern() -> Result<(), Difference> {
 
 /// Document 01's "Further" check points, asked of the library.
 fn compare_further() -> Result<(), Difference> {
-    let mut tables = Tables::of_run(&LARGEST);
+    let mut memories = Memories::of_run(&LARGEST);
     let mut ask = |n, f, slots, start, answer| {
         let plan = Numbers { n, f, slots, phases: 4, room: 4 };
-        let refusal = library::make(&Call::Open { plan, start }, &plan, &mut tables).refusal;
+        let refusal = library::make(&Call::Open { plan, start }, &plan, &mut memories).refusal;
         let right = refusal == answer;
         right.then_some(plan).ok_or(format!("opening of {plan:?} from {start}: answer {refusal}"))
     };
@@ -108,7 +114,7 @@ fn compare_further() -> Result<(), Difference> {
     ask(1, 0, 64, 511, Refusal::BadPlan.number())?;
     ask(1, 0, 64, 510, 0)?;
     let run = ask(5, 2, 1, 0, 0)?;
-    let mut answer = |call: Call| library::make(&call, &run, &mut tables).refusal;
+    let mut answer = |call: Call| library::make(&call, &run, &mut memories).refusal;
     let hear = |phase, sort| Call::Hear { receiver: 0, sender: 0, sort, slot: 0, phase };
     let answers = [
         answer(hear(0, 1)),
@@ -121,18 +127,30 @@ fn compare_further() -> Result<(), Difference> {
     right.then_some(()).ok_or(format!("a replica that hears itself: answers {answers:?}"))
 }
 
+/// The message of the caller's own that a call rests on: the one that it would hear, or one that its advance counts.
+fn own_message(call: &Call, memories: &Memories) -> Option<(usize, Message)> {
+    match *call {
+        Call::Hear { receiver, sender, sort, slot, phase } if receiver == sender => {
+            let sort = *[Sort::Proposal, Sort::State, Sort::Vote].get(sort.checked_sub(1)?)?;
+            Some((receiver, Message { sort, slot, phase }))
+        }
+        Call::Advance { who } => Some((who, memories.record(who)?.awaited())),
+        _ => None,
+    }
+}
+
 /// One run: opened, used, damaged in the middle and used further.
 struct Trial<'a> {
     random: Random,
     tally: &'a mut Tally,
-    /// What the tables were lent for.
+    /// What the memories were lent for.
     plan: Numbers,
     numbers: Numbers,
     refused_in_a_row: usize,
     habits: Habits,
     pair: Pair,
-    /// The tables before a damage, and the calls left until they come back.
-    whole: Option<(Tables, usize)>,
+    /// The memories before a damage or a call with other numbers, and the calls left until they come back.
+    whole: Option<(Memories, usize)>,
 }
 
 impl Trial<'_> {
@@ -173,6 +191,7 @@ impl Trial<'_> {
         if random.one_in(24) {
             numbers = strange_numbers(random, &numbers);
             self.tally.note("other numbers than the run's");
+            self.whole.get_or_insert((self.pair.ours.clone(), 0));
         }
         let stuck = self.whole.is_none() && self.refused_in_a_row > 20;
         match random.below(256) {
@@ -195,8 +214,12 @@ impl Trial<'_> {
     }
 
     fn call(&mut self, call: &Call, numbers: &Numbers) -> Result<(), Difference> {
+        let own = own_message(call, &self.pair.ours);
         let result = self.pair.call(call, numbers)?;
         self.note_answer(call.name(), result.map(|_| ()));
+        if let Some((who, message)) = own {
+            self.note_unmarked(who, message, numbers, &result);
+        }
         self.refused_in_a_row += 1;
         if let Ok(done) = result {
             self.refused_in_a_row = 0;
@@ -209,22 +232,42 @@ impl Trial<'_> {
         Ok(())
     }
 
+    /// No call that ends so changes the message or its mark.
+    fn note_unmarked(
+        &mut self,
+        who: usize,
+        message: Message,
+        numbers: &Numbers,
+        result: &Result<Done, Refusal>,
+    ) {
+        let name = match result {
+            Ok(Done::Advanced(_)) => UNMARKED[0],
+            Err(Refusal::Heard) => UNMARKED[1],
+            _ => return,
+        };
+        let memories = &self.pair.ours;
+        if memories.was_sent(numbers, message, who) && !memories.is_marked(numbers, message, who, who) {
+            self.tally.note(name);
+        }
+    }
+
     fn note_answer(&mut self, call: &str, result: Result<(), Refusal>) {
         self.tally.note(&answer_name(call, result.map_or_else(Refusal::number, |()| 0)));
     }
 
-    /// A damage is used for a few calls; then the whole tables come back, so that the run can go on.
+    /// A damage is used for a few calls; then the whole memories come back, so that the run can go on. So they do after one
+    /// call with other numbers, which move the sections, so that it may write across the run.
     fn damage(&mut self) {
         let (name, damage) = self.random.pick(&DAMAGES);
         self.tally.note(&format!("damage: {name}"));
-        let mut tables = self.pair.ours.clone();
+        let mut memories = self.pair.ours.clone();
         let calls = self.random.between(1, 12);
-        self.whole.get_or_insert((tables.clone(), calls));
-        damage(&mut self.random, &self.numbers, &mut tables);
-        self.pair = Pair::of(tables);
+        self.whole.get_or_insert((memories.clone(), calls));
+        damage(&mut self.random, &self.numbers, &mut memories);
+        self.pair = Pair::of(memories);
     }
 
-    /// Brings the whole tables back in time. Now and then damaged ones that can be used are kept.
+    /// Brings the whole memories back in time. Now and then damaged ones that can be used are kept.
     fn mend(&mut self) {
         let Some((whole, left)) = self.whole.take() else { return };
         let usable = self.pair.ours.fit(&self.numbers) && !self.pair.ours.are_spoiled(&self.numbers);
@@ -282,17 +325,17 @@ impl Trial<'_> {
             1 => broken_session(random, &SMALL),
             _ => wild_session(random, &SMALL),
         };
-        let mut tables = lent(random, &SMALL);
+        let mut memories = lent(random, &SMALL);
         if random.one_in(2) {
-            random.pick(&DAMAGES).1(random, &SMALL, &mut tables);
+            random.pick(&DAMAGES).1(random, &SMALL, &mut memories);
         }
         let room = random.pick(&[0, 30, 100, 100_000]);
         self.tally.note("played a step file");
-        compare_play(&most, &file, room, tables)
+        compare_play(&most, &file, room, memories)
     }
 }
 
-/// Mostly the run that the tables were lent for, else one that they may or may not hold.
+/// Mostly the run that the memories were lent for, else one that they may or may not hold.
 fn opening(random: &mut Random, plan: &Numbers) -> Call {
     let (plan, start) = match random.below(8) {
         0 => (limit_plan(random), start(random)),

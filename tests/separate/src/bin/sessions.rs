@@ -5,11 +5,11 @@
 use separate::compare::{compare_play, first_line, Difference};
 use separate::damage::{lent, DAMAGES};
 use separate::generate::{broken_session, long_session, record_places, session, wild_session};
+use separate::memories::Memories;
 use separate::numbers::{Numbers, LARGEST};
 use separate::options::{number, option};
 use separate::random::Random;
 use separate::step_file::{play_seen, report, REHEARSAL, REHEARSAL_BYTES};
-use separate::tables::Tables;
 use separate::tally::{Tally, EVENTS};
 use std::io::{self, Write};
 use std::process::{Command, ExitCode, Output, Stdio};
@@ -22,8 +22,8 @@ const FILES: [&str; 10] = [
     "file of a record that straddles byte 65,536",
     "file with a cut record",
     "file with an unknown kind",
-    "played on short tables",
-    "played on the largest tables",
+    "played on short memories",
+    "played on the largest memories",
     "played with a short buffer",
     "file without an opening first",
 ];
@@ -74,15 +74,15 @@ fn draw_file(random: &mut Random) -> Vec<u8> {
     }
 }
 
-/// The library's player on tables that fit the rehearsal, are the largest, or are short somewhere.
+/// The library's player on memories that fit the rehearsal, are the largest, or are short somewhere.
 fn compare_with_player(random: &mut Random, file: &[u8], tally: &mut Tally) -> Result<(), Difference> {
-    let (most, tables) = match random.below(16) {
+    let (most, memories) = match random.below(16) {
         0 => {
-            tally.note("played on the largest tables");
+            tally.note("played on the largest memories");
             (LARGEST, lent(random, &LARGEST))
         }
         1..4 => {
-            tally.note("played on short tables");
+            tally.note("played on short memories");
             (REHEARSAL, short(random, &REHEARSAL))
         }
         _ => (REHEARSAL, lent(random, &REHEARSAL)),
@@ -96,16 +96,16 @@ fn compare_with_player(random: &mut Random, file: &[u8], tally: &mut Tally) -> R
         1 => length,
         _ => 2 * length + 4000,
     };
-    compare_play(&most, file, room, tables)
+    compare_play(&most, file, room, memories)
 }
 
-/// Tables of which one is shorter than the largest run that is let in needs; smaller runs may still fit.
-fn short(random: &mut Random, most: &Numbers) -> Tables {
-    let mut tables = lent(random, most);
+/// Memories of which one is shorter than the largest run that is let in needs; smaller runs may still fit.
+fn short(random: &mut Random, most: &Numbers) -> Memories {
+    let mut memories = lent(random, most);
     let shortenings: Vec<_> = DAMAGES.iter().filter(|(name, _)| name.starts_with("short ")).collect();
     let (_, shorten) = random.pick(&shortenings);
-    shorten(random, most, &mut tables);
-    tables
+    shorten(random, most, &mut memories);
+    memories
 }
 
 fn note_file(file: &[u8], tally: &mut Tally) {
@@ -129,9 +129,9 @@ fn note_file(file: &[u8], tally: &mut Tally) {
 /// Counts the refusals by the report's lines and the events by the records.
 fn note_steps(file: &[u8], tally: &mut Tally) {
     let taken = &file[..file.len().min(REHEARSAL_BYTES)];
-    let played = play_seen(&REHEARSAL, taken, &mut Tables::of_run(&REHEARSAL), |call, result, tables| {
+    let played = play_seen(&REHEARSAL, taken, &mut Memories::of_run(&REHEARSAL), |call, result, memories| {
         if let Ok(done) = result {
-            tally.note_events(call, done, tables);
+            tally.note_events(call, done, memories);
         }
     });
     let text = String::from_utf8_lossy(&played.report).into_owned();

@@ -1,6 +1,6 @@
-//! The lent tables, in the layout of docs/TABLES.md, and how the rules read them.
+//! The lent memories, in the layout of docs/TABLES.md, and how the rules read them.
 
-use crate::numbers::{Message, Numbers, Sort};
+use crate::numbers::{Message, Numbers, Sort, RECORDS};
 
 pub const IDLE: u16 = 0;
 pub const EXCHANGE: u16 = 1;
@@ -13,20 +13,18 @@ pub const ZERO: u8 = 1;
 pub const ONE: u8 = 2;
 pub const UNDECIDED: u8 = 3;
 
+/// Three memories by the width of their elements, and the strip.
 #[derive(Clone, Debug, Default, PartialEq, Eq)]
-pub struct Tables {
-    pub records: Vec<u16>,
-    pub known: u16,
-    pub tags: Vec<u64>,
-    pub holders: Vec<u16>,
-    pub proposals: Vec<u64>,
+pub struct Memories {
+    /// The count of known tags, the records, the holders of each tag, the heard masks.
+    pub words: Vec<u16>,
+    /// The known tags, the proposals, the logs.
+    pub orders: Vec<u64>,
     pub ballots: Vec<u8>,
-    pub heard: Vec<u16>,
-    pub logs: Vec<u64>,
     pub strip: Vec<u8>,
 }
 
-/// Four words of `records`; laid out as the header's `rushhopper_record`.
+/// Four of the words; laid out as the header's `rushhopper_record`.
 #[repr(C)]
 #[derive(Clone, Copy, Debug, Default, PartialEq, Eq)]
 pub struct Record {
@@ -62,101 +60,119 @@ impl Record {
             || (slot == numbers.slots && self.round != IDLE)
             || (matches!(self.round, STATE | VOTE) && !(1..=numbers.phases).contains(&phase))
     }
+
+    /// The messages that its round waits for; proposals also when idle.
+    pub fn awaited(&self) -> Message {
+        let (slot, phase) = (usize::from(self.slot), usize::from(self.phase));
+        match self.round {
+            STATE => Message { sort: Sort::State, slot, phase },
+            VOTE => Message { sort: Sort::Vote, slot, phase },
+            _ => Message { sort: Sort::Proposal, slot, phase: 0 },
+        }
+    }
 }
 
-impl Tables {
-    /// Tables of exactly the lengths that a run needs, all cells 0.
-    pub fn of_run(numbers: &Numbers) -> Tables {
+impl Memories {
+    /// Memories of exactly the lengths that a run needs, all cells 0.
+    pub fn of_run(numbers: &Numbers) -> Memories {
         let needs = numbers.lengths();
-        Tables {
-            records: vec![0; needs.records],
-            known: 0,
-            tags: vec![0; needs.tags],
-            holders: vec![0; needs.holders],
-            proposals: vec![0; needs.proposals],
+        Memories {
+            words: vec![0; needs.words],
+            orders: vec![0; needs.orders],
             ballots: vec![0; needs.ballots],
-            heard: vec![0; needs.heard],
-            logs: vec![0; needs.logs],
             strip: vec![0; needs.strip],
         }
     }
 
     pub fn fit(&self, numbers: &Numbers) -> bool {
         let needs = numbers.lengths();
-        self.records.len() >= needs.records
-            && self.tags.len() >= needs.tags
-            && self.holders.len() >= needs.holders
-            && self.proposals.len() >= needs.proposals
+        self.words.len() >= needs.words
+            && self.orders.len() >= needs.orders
             && self.ballots.len() >= needs.ballots
-            && self.heard.len() >= needs.heard
-            && self.logs.len() >= needs.logs
             && self.strip.len() >= needs.strip
     }
 
-    /// The part of refusal 3 that the tables decide. A record is there if all its four words are, so that records
-    /// are judged in a short table too.
+    /// The part of refusal 3 that the memories decide. A record is there if all its four words are, so that records
+    /// are judged in a short memory too.
     pub fn are_spoiled(&self, numbers: &Numbers) -> bool {
-        let (records, _) = self.records.as_chunks::<4>();
-        usize::from(self.known) > numbers.room
-            || records.iter().take(numbers.n).any(|&words| Record::from(words).is_spoiled(numbers))
+        let mut records = self.records().iter().take(numbers.n);
+        self.known() > numbers.room || records.any(|&words| Record::from(words).is_spoiled(numbers))
     }
 
     /// "clears the part of each table that the run needs"; the strip is filled, not cleared.
     pub fn clear(&mut self, numbers: &Numbers) {
         let needs = numbers.lengths();
-        self.records[..needs.records].fill(0);
-        self.known = 0;
-        self.tags[..needs.tags].fill(0);
-        self.holders[..needs.holders].fill(0);
-        self.proposals[..needs.proposals].fill(0);
+        self.words[..needs.words].fill(0);
+        self.orders[..needs.orders].fill(0);
         self.ballots[..needs.ballots].fill(0);
-        self.heard[..needs.heard].fill(0);
-        self.logs[..needs.logs].fill(0);
+    }
+
+    /// How many tags are known; none where there is no word to say it.
+    pub fn known(&self) -> usize {
+        self.words.first().map_or(0, |&count| usize::from(count))
+    }
+
+    /// As many as the words have room for, whatever the run's numbers: behind the run's own they are other cells.
+    fn records(&self) -> &[[u16; 4]] {
+        self.words.get(RECORDS..).unwrap_or_default().as_chunks().0
     }
 
     /// The record of a replica, if all its words are there.
     pub fn record(&self, replica: usize) -> Option<Record> {
-        self.records.as_chunks::<4>().0.get(replica).map(|&words| Record::from(words))
+        self.records().get(replica).map(|&words| Record::from(words))
     }
 
     pub fn set_record(&mut self, replica: usize, record: Record) {
         let words = [record.crashed, record.round, record.slot, record.phase];
-        self.records[4 * replica..4 * replica + 4].copy_from_slice(&words);
+        self.words[RECORDS + 4 * replica..][..4].copy_from_slice(&words);
     }
 
-    fn known_places(&self) -> impl Iterator<Item = (u64, u16)> + '_ {
-        let known = usize::from(self.known);
-        self.tags[..known].iter().copied().zip(self.holders[..known].iter().copied())
+    fn known_tags(&self) -> &[u64] {
+        &self.orders[..self.known()]
+    }
+
+    /// The known tags, each with its holders.
+    fn known_places(&self, numbers: &Numbers) -> impl Iterator<Item = (u64, u16)> + '_ {
+        let holders = &self.words[numbers.holders_start()..];
+        self.known_tags().iter().copied().zip(holders.iter().copied())
     }
 
     /// The first place of a known tag.
     pub fn place(&self, tag: u64) -> Option<usize> {
-        self.tags[..usize::from(self.known)].iter().position(|&other| other == tag)
+        self.known_tags().iter().position(|&other| other == tag)
     }
 
-    /// A damaged table may have a tag twice; any of its places counts.
-    pub fn holds(&self, replica: usize, tag: u64) -> bool {
-        self.known_places().any(|(other, holders)| other == tag && holders & bit(replica) != 0)
+    /// A damaged memory may have a tag twice; any of its places counts.
+    pub fn holds(&self, numbers: &Numbers, replica: usize, tag: u64) -> bool {
+        self.known_places(numbers).any(|(other, holders)| other == tag && holders & bit(replica) != 0)
     }
 
-    pub fn add_tag(&mut self, tag: u64, holder: usize) {
-        let place = usize::from(self.known);
-        self.tags[place] = tag;
-        self.holders[place] = bit(holder);
-        self.known += 1;
+    pub fn hold(&mut self, numbers: &Numbers, place: usize, holder: usize) {
+        self.words[numbers.holder_cell(place)] |= bit(holder);
+    }
+
+    pub fn add_tag(&mut self, numbers: &Numbers, tag: u64, holder: usize) {
+        let place = self.known();
+        self.orders[place] = tag;
+        self.words[numbers.holder_cell(place)] = bit(holder);
+        self.words[0] += 1;
+    }
+
+    /// The entries of a replica's closed slots.
+    pub fn log(&self, numbers: &Numbers, replica: usize, closed: usize) -> &[u64] {
+        &self.orders[numbers.log_cell(replica, 0)..][..closed]
     }
 
     /// Pending: "tags that the controller holds and that are in none of its closed slots." Tags of 0 are passed over.
     pub fn smallest_pending(&self, numbers: &Numbers, replica: usize, closed: usize) -> Option<u64> {
-        let start = numbers.log_cell(replica, 0);
-        let log = &self.logs[start..start + closed];
-        let held = self.known_places().filter(|&(_, holders)| holders & bit(replica) != 0);
+        let log = self.log(numbers, replica, closed);
+        let held = self.known_places(numbers).filter(|&(_, holders)| holders & bit(replica) != 0);
         held.map(|(tag, _)| tag).filter(|tag| *tag != 0 && !log.contains(tag)).min()
     }
 
     pub fn was_sent(&self, numbers: &Numbers, message: Message, sender: usize) -> bool {
         match message.sort {
-            Sort::Proposal => self.proposals[numbers.proposal_cell(message.slot, sender)] != 0,
+            Sort::Proposal => self.orders[numbers.proposal_cell(message.slot, sender)] != 0,
             Sort::State => matches!(self.ballots[numbers.ballot_cell(message, sender)], ZERO | ONE),
             Sort::Vote => {
                 matches!(self.ballots[numbers.ballot_cell(message, sender)], ZERO | ONE | UNDECIDED)
@@ -164,21 +180,26 @@ impl Tables {
         }
     }
 
+    /// Of a sent message. "its own counts as heard when sent", whatever the mark says.
     pub fn was_heard(&self, numbers: &Numbers, message: Message, sender: usize, receiver: usize) -> bool {
-        self.heard[numbers.heard_cell(message, sender)] & bit(receiver) != 0
+        sender == receiver || self.is_marked(numbers, message, sender, receiver)
     }
 
-    /// "its own counts as heard when sent". Old marks of a message that was not sent must not come alive.
+    pub fn is_marked(&self, numbers: &Numbers, message: Message, sender: usize, receiver: usize) -> bool {
+        self.words[numbers.heard_cell(message, sender)] & bit(receiver) != 0
+    }
+
+    /// Marked as heard by its sender alone: old marks of a message that was not sent must not come alive.
     pub fn send_proposal(&mut self, numbers: &Numbers, slot: usize, sender: usize, tag: u64) {
         let message = Message { sort: Sort::Proposal, slot, phase: 0 };
-        self.proposals[numbers.proposal_cell(slot, sender)] = tag;
-        self.heard[numbers.heard_cell(message, sender)] = bit(sender);
+        self.orders[numbers.proposal_cell(slot, sender)] = tag;
+        self.words[numbers.heard_cell(message, sender)] = bit(sender);
     }
 
     /// As `send_proposal`, for a state or vote.
     pub fn send_ballot(&mut self, numbers: &Numbers, message: Message, sender: usize, word: u8) {
         self.ballots[numbers.ballot_cell(message, sender)] = word;
-        self.heard[numbers.heard_cell(message, sender)] = bit(sender);
+        self.words[numbers.heard_cell(message, sender)] = bit(sender);
     }
 
     /// The tags of the proposals of a slot that a replica has heard, also those that came late.
@@ -191,7 +212,7 @@ impl Tables {
         let message = Message { sort: Sort::Proposal, slot, phase: 0 };
         (0..numbers.n)
             .filter(move |&sender| self.was_heard(numbers, message, sender, receiver))
-            .map(move |sender| self.proposals[numbers.proposal_cell(slot, sender)])
+            .map(move |sender| self.orders[numbers.proposal_cell(slot, sender)])
             .filter(|&tag| tag != 0)
     }
 
