@@ -8,6 +8,7 @@ if [ $# -ne 1 ] || [ ! -x "$1" ]; then
 fi
 rehearse=$1
 examples=$(dirname "$0")
+"$examples/../tools/need" python3
 status=0
 for text in "$examples"/*.txt; do
     name=$(basename "$text" .txt)
