@@ -1,20 +1,19 @@
 -- A record that is not there, and one that is: spoiled or not, by its round.
 use mathlib.Core.Path.{_≡_, refl, sym, _∙_, ap}
-use mathlib.Core.Bool.{Bool, true, false, _&&_, _||_}
+use mathlib.Core.Bool.{Bool, true, false, not, _&&_}
 use mathlib.Core.Logic.{_≢_}
 use mathlib.Core.List.{List, [], _∷_}
 use Prim.Native.Nat.{ℕ, _+_, _*_, _<_, _≤_}
 use native.Mathlib.Omega.{arith}
 use native.Mathlib.Decide.{ℕ-discrete}
-use lib.Dec.{leb, ltb}
+use lib.Dec.{leb, ltb, eqb}
 use lib.ListN.{length}
-use borrow.Author.Tests.{lt-ltb, lt-leb, le-leb}
+use borrow.Author.Tests.{lt-ltb, le-ltb, lt-leb, le-leb, ne-eqb, leb-true, leb-false}
 use Rattle.model.specs.declared.Numbers.{Numbers}
 use Rattle.tables.specs.declared.Record.{Record}
-use Rattle.model.specs.declared.Round.the-variants.{State}
-use Rattle.model.specs.Tests.{if}
+use Rattle.model.specs.Tests.{if, between}
 use Rattle.model.specs.Rules.{phase-in}
-use Rattle.model.proofs.Cases.{or-left}
+use Rattle.model.proofs.Cases.{either, or-left}
 use Rattle.tables.specs.Layout.{slot-end, known-cell, known-in, record-end, record-at}
 use Rattle.model.specs.Rack.{round-in}
 use Rattle.tables.specs.Checks.{misplaced, spoiled, spoiled-at}
@@ -27,31 +26,67 @@ module _ (N : Numbers) (ws : List ℕ) (c : ℕ) where
   pub at-there : {e : ℕ} {k : Record} {b : Bool} → e ≡ record-end c → e ≤ length ws → k ≡ record-at ws c → b ≡ spoiled N k → b ≡ spoiled-at N ws c
   at-there past h e q = q ∙ ap (spoiled N) e ∙ sym (ap (λ (b : Bool). b && spoiled N (record-at ws c)) (le-leb (record-end c) (length ws) (omega arith)))
 
--- ---- by the round; what is none of the others is a state or vote round, which have a phase
-pub no-round : (N : Numbers) (k : Record) → 4 < k .round → true ≡ spoiled N k
-unfolding spoiled
-no-round N k h = sym (or-left (ltb 4 (k .round)) _ (lt-ltb 4 (k .round) h))
+-- ---- spoiled or not, by the slot and then by the round
 
-module _ (N : Numbers) (k : Record) {r : Bool} where
-  pub in-idle : {end : ℕ} → k .round ≡ 0 → end ≡ slot-end N → r ≡ ltb end (k .slot) → r ≡ spoiled N k
+-- the phase of a state or a vote
+pub phase-low : (hi p : ℕ) → p < 1 → true ≡ not (between 1 hi p)
+phase-low hi p h = rw (lt-leb 1 p h)
+
+pub phase-high : (hi p : ℕ) → 1 ≤ p → ltb hi p ≡ not (between 1 hi p)
+phase-high hi p h = either (leb p hi)
+    (λ e. rw (le-leb 1 p h, e) (le-ltb hi p (leb-true _ _ e)))
+    (λ e. rw (le-leb 1 p h, e) (lt-ltb hi p (leb-false _ _ e)))
+
+module _ (N : Numbers) (k : Record) {end : ℕ} (is : end ≡ slot-end N) where
+  -- no slot of the run is left: only an idle replica may stand there
+  pub past-busy : end ≤ k .slot → k .round ≢ 0 → true ≡ spoiled N k
   unfolding spoiled round-in misplaced if
-  in-idle e is q = rw (e, ← is) q
-
-  pub in-exchange : {end : ℕ} → k .round ≡ 1 → end ≡ slot-end N → r ≡ leb end (k .slot) → r ≡ spoiled N k
-  unfolding spoiled round-in misplaced if
-  in-exchange e is q = rw (e, ← is) q
-
-  pub in-find : {end : ℕ} → k .round ≡ 4 → end ≡ slot-end N → r ≡ leb end (k .slot) → r ≡ spoiled N k
-  unfolding spoiled round-in misplaced if
-  in-find e is q = rw (e, ← is) q
-
-  pub in-ballots : k .round ≤ 4 → k .round ≢ 0 → k .round ≢ 1 → k .round ≢ 4 → r ≡ misplaced N State (k .slot) (k .phase) → r ≡ spoiled N k
-  unfolding spoiled round-in misplaced phase-in if
-  in-ballots h idle exchange find q = go (ℕ-discrete (k .round) 2)
+  past-busy h busy = go (ℕ-discrete (k .round) 1) (ℕ-discrete (k .round) 2) (ℕ-discrete (k .round) 3) (ℕ-discrete (k .round) 4)
     where
-      go : Dec (k .round ≡ 2) → r ≡ spoiled N k
-      go (yes e) = rw e q
-      go (no ne) = let e : k .round ≡ 3 = omega arith in rw e q
+      out : leb (slot-end N) (k .slot) ≡ true
+      out = le-leb (slot-end N) (k .slot) (omega arith)
+
+      go : Dec (k .round ≡ 1) → Dec (k .round ≡ 2) → Dec (k .round ≡ 3) → Dec (k .round ≡ 4) → true ≡ spoiled N k
+      go (yes e) b c d = rw (e, out)
+      go (no _) (yes e) c d = rw (e, out)
+      go (no _) (no _) (yes e) d = rw (e, out)
+      go (no _) (no _) (no _) (yes e) = rw (e, out)
+      go (no a) (no b) (no c) (no d) = sym (or-left (ltb 4 (k .round)) _ (lt-ltb 4 (k .round) (omega arith)))
+
+  pub past-idle : k .round ≡ 0 → ltb end (k .slot) ≡ spoiled N k
+  unfolding spoiled round-in misplaced if
+  past-idle e = rw (e, ← is)
+
+  module _ (h : k .slot < end) where
+    inside : leb (slot-end N) (k .slot) ≡ false
+    inside = lt-leb (slot-end N) (k .slot) (omega arith)
+
+    -- idle or in the exchange
+    pub in-first : k .round < 2 → false ≡ spoiled N k
+    unfolding spoiled round-in misplaced if
+    in-first l = go (ℕ-discrete (k .round) 0)
+      where
+        go : Dec (k .round ≡ 0) → false ≡ spoiled N k
+        go (yes e) = rw (e, le-ltb (slot-end N) (k .slot) (omega arith))
+        go (no ne) = let e : k .round ≡ 1 = omega arith in rw (e, inside)
+
+    -- in find, or in no round
+    pub in-last : 3 < k .round → not (eqb (k .round) 4) ≡ spoiled N k
+    unfolding spoiled round-in misplaced if
+    in-last l = go (ℕ-discrete (k .round) 4)
+      where
+        go : Dec (k .round ≡ 4) → not (eqb (k .round) 4) ≡ spoiled N k
+        go (yes e) = rw (e, inside)
+        go (no ne) = rw (ne-eqb (k .round) 4 ne) (sym (or-left (ltb 4 (k .round)) _ (lt-ltb 4 (k .round) (omega arith))))
+
+    -- in the state or the vote round
+    pub in-ballots : {b : Bool} → 2 ≤ k .round → k .round ≤ 3 → b ≡ not (between 1 (N .phases) (k .phase)) → b ≡ spoiled N k
+    unfolding spoiled round-in misplaced phase-in if
+    in-ballots {b} lo hi q = go (ℕ-discrete (k .round) 2)
+      where
+        go : Dec (k .round ≡ 2) → b ≡ spoiled N k
+        go (yes e) = rw (e, inside) q
+        go (no ne) = let e : k .round ≡ 3 = omega arith in rw (e, inside) q
 
 -- ---- the head
 

@@ -4,17 +4,22 @@ use layout::record_place;
 use layout::slot_end;
 use model::Numbers;
 use model::Round;
+use tables::EXCHANGE;
+use tables::FIND;
+use tables::IDLE;
 use tables::KNOWN_CELL;
 use tables::Record;
+use tables::STATE;
+use tables::VOTE;
 ghost use mathlib.Core.Path.{_≡_};
-ghost use mathlib.Core.Bool.{_||_};
+ghost use mathlib.Core.Bool.{not, _||_};
 ghost use Prim.Native.Nat.{_<_, _≤_};
 ghost use lib.ListN.{length};
-ghost use Rattle.model.specs.declared.Round.the-variants.{State};
+ghost use Rattle.model.specs.Tests.{between};
 ghost use Rattle.model.specs.Limits.{most-replicas};
 ghost use Rattle.tables.specs.Layout.{mask-bits, known-in, record-end, record-at, record-stored};
 ghost use Rattle.model.specs.Rack.{round-in};
-ghost use Rattle.tables.specs.Checks.{misplaced, spoiled, spoiled-at, any-spoiled};
+ghost use Rattle.tables.specs.Checks.{spoiled, spoiled-at, any-spoiled};
 
 // How many tags are known: none where not even that is there.
 pub fn known_in(words: &[u16]) -> u16
@@ -53,55 +58,51 @@ pub fn store(words: &mut [u16], c: usize, k: Record)
 pub fn round_in(x: u16) -> Round
     ensures { λ r. ⌜ r ≡ round-in x ⌝ }
 {
-    if x == 0 {
+    if x == IDLE {
         return Round::Idle;
     }
-    if x == 1 {
+    if x == EXCHANGE {
         return Round::Exchange;
     }
-    if x == 2 {
+    if x == STATE {
         return Round::State;
     }
-    if x == 3 {
+    if x == VOTE {
         return Round::Vote;
     }
     Round::Find
 }
 
-// In the state round; the vote round's is the same.
-fn misplaced_phase(numbers: Numbers, slot: usize, phase: usize) -> bool
-    ensures { λ r. ⌜ r ≡ misplaced numbers State slot phase ⌝ }
+// "a phase outside 1 to the phase limit"
+fn phase_outside(numbers: Numbers, phase: usize) -> bool
+    ensures { λ r. ⌜ r ≡ not (between 1 (numbers .phases) phase) ⌝ }
 {
-    if slot_end(numbers) <= slot {
-        return true;
-    }
     if phase < 1 {
         return true;
     }
-    if numbers.phases < phase {
-        return true;
-    }
-    false
+    numbers.phases < phase
 }
 
+// By the slot first: most records are of a slot that the run has.
 pub fn record_spoiled(numbers: Numbers, k: Record) -> bool
     ensures { λ r. ⌜ r ≡ spoiled numbers k ⌝ }
 {
     let slot = k.slot as usize;
     let phase = k.phase as usize;
-    if 4 < k.round {
-        return true;
+    let end = slot_end(numbers);
+    if end <= slot {
+        if k.round != IDLE {
+            return true;
+        }
+        return end < slot;
     }
-    if k.round == 0 {
-        return slot_end(numbers) < slot;
+    if k.round < STATE {
+        return false;
     }
-    if k.round == 1 {
-        return slot_end(numbers) <= slot;
+    if VOTE < k.round {
+        return k.round != FIND;
     }
-    if k.round == 4 {
-        return slot_end(numbers) <= slot;
-    }
-    misplaced_phase(numbers, slot, phase)
+    phase_outside(numbers, phase)
 }
 
 fn spoiled_record(numbers: Numbers, words: &[u16], c: usize) -> bool

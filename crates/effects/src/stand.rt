@@ -4,7 +4,12 @@ use cells::records::store;
 use layout::log_place;
 use model::Numbers;
 use model::Round;
+use tables::EXCHANGE;
+use tables::FIND;
+use tables::IDLE;
 use tables::Record;
+use tables::STATE;
+use tables::VOTE;
 ghost use mathlib.Core.Path.{_≡_};
 ghost use Prim.Native.Nat.{_<_, _≤_};
 ghost use lib.ListN.{length, set};
@@ -18,11 +23,11 @@ fn round_number(round: Round) -> u16
     ensures { λ r. ⌜ r ≡ round-number round ⌝ }
 {
     match round {
-        Round::Idle => 0,
-        Round::Exchange => 1,
-        Round::State => 2,
-        Round::Vote => 3,
-        Round::Find => 4,
+        Round::Idle => IDLE,
+        Round::Exchange => EXCHANGE,
+        Round::State => STATE,
+        Round::Vote => VOTE,
+        Round::Find => FIND,
     }
 }
 
