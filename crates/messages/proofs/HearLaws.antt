@@ -1,5 +1,6 @@
 -- What a hear comes to, exit by exit.
-use Prim.Native.Nat.{ℕ, _<_}
+use Prim.Native.Nat.{ℕ, _<_, _≤_}
+use native.Mathlib.Omega.{arith}
 use mathlib.Core.Bool.{Bool, true, false, not, _||_}
 use mathlib.Core.List.{List}
 use mathlib.Core.Logic.{_≢_}
@@ -79,22 +80,31 @@ module _ (N : Numbers) (ws os bs : List ℕ) (c : ℕ) (m : Message) (so : Sort)
 
 -- ---- by the number of the sort
 
+pub sort-1 : {x : ℕ} → x ≡ 1 → some Proposals ≡ sort-of x
+unfolding if
+sort-1 e = rw e
+
+pub sort-2 : {x : ℕ} → x ≡ 2 → some States ≡ sort-of x
+unfolding if
+sort-2 e = rw e
+
+pub sort-3 : {x : ℕ} → (1 ≤ x) × (x ≤ 3) → x ≢ 1 → x ≢ 2 → some Votes ≡ sort-of x
+unfolding if
+sort-3 {x} (lo, hi) a b = let e : x ≡ 3 = omega arith in rw e
+
 module _ (N : Numbers) (sent : Messages) (k : Replica) (m : Message) where
   abbrev Comes : Effect → Option Sort → Type 0
   Comes r so = r ≡ settle (hear-rule N sent k m so)
 
-  pub proposal-heard : {r : Effect} → m .sort ≡ 1 → Comes r (some Proposals) → Comes r (sort-of (m .sort))
-  unfolding if
-  proposal-heard {r} e q = subst (λ (x : ℕ). Comes r (sort-of x)) (sym e) q
-
-  pub state-heard : {r : Effect} → m .sort ≡ 2 → Comes r (some States) → Comes r (sort-of (m .sort))
-  unfolding if
-  state-heard {r} e q = subst (λ (x : ℕ). Comes r (sort-of x)) (sym e) q
-
-  pub vote-heard : {r : Effect} → m .sort ≡ 3 → Comes r (some Votes) → Comes r (sort-of (m .sort))
-  unfolding if
-  vote-heard {r} e q = subst (λ (x : ℕ). Comes r (sort-of x)) (sym e) q
-
-  pub no-sort : m .sort ≢ 1 → m .sort ≢ 2 → m .sort ≢ 3 → Comes (Refuse NoSuchMessage) (sort-of (m .sort))
+  no-sort : m .sort ≢ 1 → m .sort ≢ 2 → m .sort ≢ 3 → Comes (Refuse NoSuchMessage) (sort-of (m .sort))
   unfolding if hear-rule unless
   no-sort a b e = rw (ne-eqb _ _ a, ne-eqb _ _ b, ne-eqb _ _ e)
+
+  pub sort-low : m .sort < 1 → Comes (Refuse NoSuchMessage) (sort-of (m .sort))
+  sort-low h = no-sort (λ e. omega arith) (λ e. omega arith) (λ e. omega arith)
+
+  pub sort-high : 3 < m .sort → Comes (Refuse NoSuchMessage) (sort-of (m .sort))
+  sort-high h = no-sort (λ e. omega arith) (λ e. omega arith) (λ e. omega arith)
+
+  pub sort-heard : {r : Effect} {so : Sort} → some so ≡ sort-of (m .sort) → Comes r (some so) → Comes r (sort-of (m .sort))
+  sort-heard {r} e q = subst (Comes r) e q

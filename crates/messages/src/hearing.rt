@@ -10,7 +10,7 @@ use values::words::is_sent;
 ghost use mathlib.Core.Path.{_≡_};
 ghost use mathlib.Core.Bool.{not, _||_};
 ghost use mathlib.Core.Option.{some};
-ghost use Prim.Native.Nat.{_<_};
+ghost use Prim.Native.Nat.{_<_, _≤_};
 ghost use lib.Dec.{leb};
 ghost use Rattle.model.specs.Tests.{between};
 ghost use Rattle.model.specs.Rack.{sort-of};
@@ -85,6 +85,19 @@ fn hear_message(
 }
 
 // By the number of the sort: 1 a proposal, 2 a state, 3 a vote.
+pub fn sort_named(x: usize) -> Sort
+    requires { ⌜ (1 ≤ x) × (x ≤ 3) ⌝ }
+    ensures { λ r. ⌜ some r ≡ sort-of x ⌝ }
+{
+    if x == 1 {
+        return Sort::Proposals;
+    }
+    if x == 2 {
+        return Sort::States;
+    }
+    Sort::Votes
+}
+
 pub fn hear_rule(
     numbers: Numbers,
     who: usize,
@@ -98,22 +111,12 @@ pub fn hear_rule(
         (reading 0 0 (guarded numbers (inbox-in numbers (now (orders .entry)) (now (ballots .entry)) (now (words .entry)) who)))
         message (sort-of (message .sort))) ⌝ }
 {
-    if message.sort == 1 {
-        return hear_message(
-            numbers,
-            who,
-            Sort::Proposals,
-            message,
-            words,
-            orders,
-            ballots,
-        );
+    if message.sort < 1 {
+        return Effect::Refuse(Refusal::NoSuchMessage);
     }
-    if message.sort == 2 {
-        return hear_message(numbers, who, Sort::States, message, words, orders, ballots);
+    if 3 < message.sort {
+        return Effect::Refuse(Refusal::NoSuchMessage);
     }
-    if message.sort == 3 {
-        return hear_message(numbers, who, Sort::Votes, message, words, orders, ballots);
-    }
-    Effect::Refuse(Refusal::NoSuchMessage)
+    let sort = sort_named(message.sort);
+    hear_message(numbers, who, sort, message, words, orders, ballots)
 }
