@@ -2,20 +2,21 @@
 use Prim.Native.Nat.{ℕ, _≤_, _<_}
 use native.Mathlib.Omega.{arith}
 use mathlib.Core.Bool.{Bool, true, false, not, _&&_, _||_, false≢true}
-use mathlib.Core.Path.{_≡_, refl, sym, _∙_, subst}
+use mathlib.Core.Path.{_≡_, refl, sym, _∙_, ap, ap₂, subst}
 use lib.Dec.{leb, ltb}
 use lib.ListN.{length}
-use borrow.Author.Tests.{ltb-false, leb-false, le-leb, lt-ltb, not-false}
-use Rattle.tables.specs.Types.{Numbers, Round, Idle, Exchange, State, Vote, Find, States, Votes, Step}
+use borrow.Author.Tests.{ltb-false, leb-false, le-leb, le-ltb, lt-ltb, not-false}
+use Rattle.tables.specs.Types.{Numbers, Round, Idle, Exchange, State, Vote, Find, States, Votes, Step, Record}
 use Rattle.model.specs.Tests.{if}
 use Rattle.model.specs.Limits.{limited}
-use Rattle.model.specs.Rack.{round-in, same-round}
+use Rattle.model.specs.Rack.{round-number, round-in, same-round}
 use Rattle.model.specs.Rules.{is-crash, phase-in}
 use Rattle.model.proofs.Branches.{if-true}
-use Rattle.model.proofs.Cases.{clash, or-false, Unmet}
+use Rattle.model.proofs.Cases.{clash, or-false, Unmet, round-back}
 use Rattle.model.proofs.Counting.{any-false}
 use Rattle.tables.specs.Layout.{Tables, known-in, record-end, record-at}
 use Rattle.tables.specs.View.{only, replica-at, view}
+use Rattle.tables.specs.Write.{moved}
 use Rattle.tables.specs.Checks.{lengths, misplaced, spoiled, spoiled-at, any-spoiled, tables-refusals, record-refusals}
 use Rattle.tables.specs.Bounds.{Bounds, bounds, Long, is-long}
 use Rattle.tables.specs.Calls.{lent-refusals}
@@ -51,6 +52,19 @@ module _ (N : Numbers) (s p : ℕ) where
   pub in-vote : misplaced N Vote s p ≡ false → phase-in N Votes p ≡ true
   unfolding misplaced
   in-vote e = not-false _ (or-false (leb slots s) _ e .1)
+
+-- the number of a round is one of the five
+round-low : (a : Round) → round-number a ≤ 4
+round-low Idle = omega arith
+round-low Exchange = omega arith
+round-low State = omega arith
+round-low Vote = omega arith
+round-low Find = omega arith
+
+-- a record is not spoiled where its round, slot and phase go together
+pub moved-fine : (N : Numbers) (a : Round) (s p : ℕ) (k : Record) → misplaced N a s p ≡ false → spoiled N (moved a s p k) ≡ false
+unfolding spoiled
+moved-fine N a s p k e = ap₂ (λ (x y : Bool). x || y) (le-ltb 4 (round-number a) (round-low a)) (ap (λ (a : Round). misplaced N a s p) (round-back a) ∙ e)
 
 -- ---- memories that passed
 
