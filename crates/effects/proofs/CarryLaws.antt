@@ -2,7 +2,8 @@
 use Prim.Native.Nat.{ℕ}
 use native.Mathlib.Omega.{arith}
 use mathlib.Core.List.{List}
-use mathlib.Core.Path.{_≡_, refl, sym, subst}
+use mathlib.Core.Bool.{true, false}
+use mathlib.Core.Path.{_≡_, refl, sym, _∙_, ap, subst}
 use lib.ListN.{getD, set}
 use Rattle.model.specs.declared.Numbers.{Numbers}
 use Rattle.model.specs.declared.Round.the-variants.{Find}
@@ -11,12 +12,17 @@ use Rattle.model.specs.declared.Word.{Word}
 use Rattle.model.specs.declared.Refusal.{Refusal}
 use Rattle.model.specs.declared.Effect.{Effect}
 use Rattle.model.specs.declared.Effect.the-variants.{Refuse, Hold, Close, Seek, Receive, Halt}
+use Rattle.model.proofs.Cases.{clash}
 use Rattle.tables.specs.Layout.{Tables, with-bit, known-in, record-at, record-stored, heard-cell}
 use Rattle.tables.specs.Write.{write, entered, halted, orders-held, words-held}
 use Rattle.tables.specs.Calls.{tables}
 use Rattle.messages.specs.Reach.{Reach}
 use Rattle.known.specs.Room.{Room, Acting}
-use Rattle.effects.specs.Doable.{Doable, Ready, RecordThere}
+use Rattle.effects.specs.Doable.{Doable, Ready, RecordThere, by-advance}
+
+-- an effect that is none of an advance's was not matched
+pub not-advance : {e e′ : Effect} {A : Type 0} → by-advance e ≡ true → by-advance e′ ≡ false → e ≡ e′ → A
+not-advance h bars q = clash (sym bars ∙ ap by-advance (sym q) ∙ h)
 
 module _ (N : Numbers) (c : ℕ) where
   -- the effect that the code has matched

@@ -1,5 +1,6 @@
 -- What an effect needs of the tables to be stored: a place for each cell that it stores.
 use Prim.Native.Nat.{ℕ, _≤_, _<_}
+use mathlib.Core.Bool.{Bool, true, false}
 use mathlib.Core.List.{List}
 use lib.ListN.{length}
 use Rattle.model.specs.declared.Numbers.{Numbers}
@@ -36,3 +37,7 @@ Doable N c (Close x) t = Ready N c t × (slot-of c t < N .slots)
 Doable N c Seek t = Ready N c t
 Doable N c (Receive so s p d w) t = Ready N c t × Within N so s p d
 Doable N c Halt t = RecordThere c (t .words)
+
+-- what an advance may come to
+abbrev pub by-advance : Effect → Bool
+by-advance = elim [ Refuse why ↦ true | Hold x ↦ false | Send so p w ↦ true | Close x ↦ true | Seek ↦ true | Receive so s p d w ↦ false | Halt ↦ false ]

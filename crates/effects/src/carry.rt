@@ -1,19 +1,18 @@
-// An effect is carried out: what it says is stored.
+// What an advance comes to is stored.
 use crate::sends::close;
 use crate::sends::seek;
 use crate::sends::send;
-use crate::stand::halt;
-use known::hold_tag;
-use messages::sending::mark_heard;
 use model::Effect;
 use model::Numbers;
 ghost use mathlib.Core.Path.{_≡_};
+ghost use mathlib.Core.Bool.{true};
 ghost use Rattle.tables.specs.Write.{write};
 ghost use Rattle.tables.specs.Calls.{tables};
 ghost use Rattle.tables.specs.Lent.{moments};
-ghost use Rattle.effects.specs.Doable.{Doable};
+ghost use Rattle.effects.specs.Doable.{Doable, by-advance};
 
-pub fn carry_out(
+// A message, an entry, or the find round: no other effect is an advance's.
+pub fn carry_advance(
     numbers: Numbers,
     who: usize,
     effect: Effect,
@@ -21,16 +20,14 @@ pub fn carry_out(
     orders: &mut [u64],
     ballots: &mut [u8],
 )
-    requires { ⌜ Doable numbers who effect (tables (now words) (now orders) (now ballots)) ⌝ }
+    requires { ⌜ (Doable numbers who effect (tables (now words) (now orders) (now ballots))) × (by-advance effect ≡ true) ⌝ }
     ensures { λ _.
         let t = moments words orders ballots in
         ⌜ t .exit ≡ write numbers who effect (t .entry) ⌝ }
 {
     match effect {
         Effect::Refuse(_) => {}
-        Effect::Hold(x) => {
-            hold_tag(numbers, who, x, words, orders);
-        }
+        Effect::Hold(_) => {}
         Effect::Send { sort, phase, word } => {
             send(numbers, who, sort, phase, word, words, orders, ballots);
         }
@@ -41,16 +38,12 @@ pub fn carry_out(
             seek(who, words);
         }
         Effect::Receive {
-            sort,
-            slot,
-            phase,
-            sender,
+            sort: _,
+            slot: _,
+            phase: _,
+            sender: _,
             word: _,
-        } => {
-            mark_heard(numbers, who, sort, slot, phase, sender, words);
-        }
-        Effect::Halt => {
-            halt(who, words);
-        }
+        } => {}
+        Effect::Halt => {}
     }
 }

@@ -8,18 +8,18 @@ use layout::words_need;
 use model::Numbers;
 use model::Refusal;
 use tables::Lengths;
-use tables::Record;
 use values::limits::numbers_limited;
 ghost use mathlib.Core.Path.{_≡_};
+ghost use mathlib.Core.Bool.{false};
 ghost use lib.ListN.{length};
 ghost use Rattle.tables.specs.Bounds.{Bounds};
-ghost use Rattle.tables.specs.Checks.{long};
-ghost use Rattle.refusals.specs.Vet.{vetted};
+ghost use Rattle.tables.specs.Checks.{lengths, long};
+ghost use Rattle.tables.specs.Calls.{tables};
+ghost use Rattle.refusals.specs.Vet.{run-spoiled, vetted};
 
 pub enum Vetted {
     Refused(Refusal),
-    // The acting replica's record.
-    Passed(Record),
+    Passed,
 }
 
 // No memory is "shorter than the run needs".
@@ -36,7 +36,30 @@ pub fn tables_long(numbers: Numbers, lengths: Lengths) -> bool
     ballots_need(numbers) <= lengths.ballots
 }
 
-// `who` acts; `other` is a second replica that the step names, or `who` again.
+pub fn measure(words: &[u16], orders: &[u64], ballots: &[u8]) -> Lengths
+    ensures { λ r. ⌜ r ≡ lengths (tables (now (words .entry)) (now (orders .entry)) (now (ballots .entry))) ⌝ }
+{
+    Lengths {
+        words: words.len(),
+        orders: orders.len(),
+        ballots: ballots.len(),
+    }
+}
+
+// 3. Apart from what is asked behind it, so that the compiler joins both with each step: together they are too large for that.
+pub fn run_spoiled(numbers: Numbers, words: &[u16]) -> bool
+    ensures { λ r. ⌜ r ≡ run-spoiled numbers (now (words .entry)) ⌝ }
+{
+    if !numbers_limited(numbers) {
+        return true;
+    }
+    if numbers.room < (known_in(words) as usize) {
+        return true;
+    }
+    any_spoiled(numbers, words)
+}
+
+// 2, 4, 5, behind 3. `who` acts; `other` is a second replica that the step names, or `who` again.
 pub fn vet(
     numbers: Numbers,
     who: usize,
@@ -45,18 +68,9 @@ pub fn vet(
     strip: usize,
     words: &[u16],
 ) -> Vetted
-    requires { ⌜ lengths .words ≡ length (now words) ⌝ }
+    requires { ⌜ (run-spoiled numbers (now words) ≡ false) × (lengths .words ≡ length (now words)) ⌝ }
     ensures { λ r. ⌜ r ≡ vetted numbers who other lengths strip (now (words .entry)) ⌝ }
 {
-    if !numbers_limited(numbers) {
-        return Vetted::Refused(Refusal::SpoiledRecord);
-    }
-    if numbers.room < (known_in(words) as usize) {
-        return Vetted::Refused(Refusal::SpoiledRecord);
-    }
-    if any_spoiled(numbers, words) {
-        return Vetted::Refused(Refusal::SpoiledRecord);
-    }
     if !tables_long(numbers, lengths) {
         return Vetted::Refused(Refusal::ShortTable);
     }
@@ -73,5 +87,5 @@ pub fn vet(
     if k.crashed != 0 {
         return Vetted::Refused(Refusal::Crashed);
     }
-    Vetted::Passed(k)
+    Vetted::Passed
 }

@@ -2,29 +2,41 @@
 use Prim.Native.Nat.{ℕ, zero, suc, _+_, _-_, _*_, _≤_, _<_}
 use native.Mathlib.Omega.{arith}
 use native.Mathlib.Numerals.{add-one}
-use mathlib.Core.Bool.{Bool, true, false}
-use mathlib.Core.List.{List}
-use mathlib.Core.Path.{_≡_, refl, sym, _∙_, ap}
+use mathlib.Core.Bool.{Bool, true, false, not}
+use mathlib.Core.List.{List, [], _∷_}
+use mathlib.Core.Path.{_≡_, refl, sym, _∙_, ap, subst}
+use lib.Dec.{leb, eqb}
 use lib.ListN.{length}
+use borrow.Author.Tests.{leb-false, le-ltb}
 use mathlib.Core.Logic.{_≢_}
 use Rattle.model.specs.declared.Numbers.{Numbers}
 use Rattle.model.specs.declared.ReplicaId.{ReplicaId}
 use Rattle.model.specs.declared.Refusal.{Refusal}
 use Rattle.model.specs.declared.Effect.{Effect}
 use Rattle.model.specs.declared.Effect.the-variants.{Refuse, Hold, Send, Close, Seek, Receive, Halt}
-use Rattle.model.specs.declared.Step.{Step}
+use Rattle.model.specs.declared.Act.the-variants.{Advance}
 use Rattle.model.specs.declared.Answer.{Answer}
 use Rattle.model.specs.declared.Answer.the-variants.{Refused, Ran}
-use Rattle.model.specs.Limits.{most-phases}
+use Rattle.tables.specs.declared.Lengths.{Lengths}
+use Rattle.model.specs.Limits.{limited, most-phases}
+use Rattle.model.specs.TurnedAway.{Ground, unless}
 use Rattle.model.specs.Scripts.{Played, play, accepted, advance, goes-on, stopped, running, most-advances, ended}
-use Rattle.model.proofs.Cases.{clash, unless-ind, unmet-both}
+use Rattle.model.proofs.Branches.{if-false}
+use Rattle.model.proofs.Cases.{clash, and-true, or-false, or-none, Unmet, unless-ind, unmet-both}
 use Rattle.model.proofs.Playing.{run-further, run-stops}
 use Rattle.safety.specs.Comes.{past}
 use Rattle.tables.specs.Layout.{mask-bits, Tables, record-end}
 use Rattle.tables.specs.View.{view}
 use Rattle.tables.specs.Sound.{lent-sound, record-there}
-use Rattle.tables.specs.Calls.{lent-refusals, judge, performed, on-tables, ran-on}
+use Rattle.tables.specs.Checks.{lengths, long}
+use Rattle.tables.specs.Calls.{lent-refusals, judge, performed, on-tables, stepped, ran-on}
+use Rattle.promises.specs.Kept.{step-lengths-kept}
 use Rattle.promises.specs.RunOn.{run-on-further}
+use Rattle.promises.specs.Still.{still-fine}
+use Rattle.refusals.specs.declared.Vetted.the-variants.{Refused as Refused′, Passed}
+use Rattle.refusals.specs.Vet.{first-asked}
+use Rattle.steps.specs.Admitted.{first-vetted, Passing}
+use Rattle.steps.proofs.GateLaws.{judge-behind}
 
 -- ---- the answer
 
@@ -52,25 +64,64 @@ one-more zero e h = first e h
     ]
 one-more (suc k) e h = ap Ran (rw h (omega arith))
 
--- ---- by one advance
-
 -- no advance is left to make
 pub run-out : (N : Numbers) (strip : List ℕ) (c : ReplicaId) (t : Tables) (count : ℕ) {left : ℕ} → left ≡ 0
     → ended (Ran count) t ≡ play (on-tables N strip) (running c (2 * left) count) t
 unfolding play running
 run-out N strip c t count e = rw e
 
-module _ (N : Numbers) (strip : List ℕ) (c : ReplicaId) (t : Tables) {a : Step} {e : Effect} {t′ : Tables} {b : Bool}
-    (stepped : a ≡ advance c) (seen : (e ≡ judge N strip a t) × (t′ ≡ performed N strip a t)) (asked : b ≡ goes-on e) where
+-- ---- the first refusals, once passed, are passed again
+
+-- it passes where no refusal is met
+unmet-passes : (gs : List Ground) → Unmet gs → unless Refused′ gs Passed ≡ Passed
+unfolding unless Unmet
+unmet-passes [] u = refl
+unmet-passes (g ∷ gs) u = if-false _ _ (u .0) ∙ unmet-passes gs (u .1)
+
+module _ (N : Numbers) (strip : List ℕ) (c : ReplicaId) (t : Tables) where
+  -- an advance that is accepted has met none
+  unmet : accepted (judge N strip (advance c) t) ≡ true → Unmet (first-asked N (c .0) (c .0) (lengths t) (length strip) (t .words))
+  unmet g =
+      let gs = first-asked N (c .0) (c .0) (lengths t) (length strip) (t .words) in
+      unless-ind (λ (e : Effect). accepted e ≡ true → Unmet gs) gs (λ why g. clash g) (λ u _. u)
+      (ap accepted (sym (judge-behind N strip t c Advance refl)) ∙ g)
+
+  -- nor does the next
+  pub passing-on : accepted (judge N strip (advance c) t) ≡ true → Passing N (c .0) (length strip) (performed N strip (advance c) t)
+  unfolding first-vetted Unmet stepped play
+  passing-on g =
+      let (spoiled, (short, (few, (nobody, (dark, _))))) = unmet g in
+      let still = still-fine N strip (advance c) t refl g in
+      let fine = still .fine in
+      let limits = or-false (not (limited N)) _ spoiled .0 in
+      let here = leb-false _ _ (or-false (leb (N .n) (c .0)) _ nobody .0) in
+      unmet-passes _ (
+        or-none _ _ limits (or-none _ _ (le-ltb _ _ (fine .known)) (fine .unspoiled)),
+        (
+          ap (λ (l : Lengths). not (long N l)) (step-lengths-kept N strip (advance c) t) ∙ short,
+          (few, (nobody, (ap (λ (k : ℕ). not (eqb k 0)) (still .alike (c .0) here) ∙ dark, tt))),
+        ),
+      )
+
+-- ---- by one advance
+
+module _ (N : Numbers) (strip : List ℕ) (c : ReplicaId) (t : Tables) {e : Effect} {t′ : Tables} {b : Bool}
+    (seen : (e ≡ judge N strip (advance c) t) × (t′ ≡ performed N strip (advance c) t)) (asked : b ≡ goes-on e) where
   -- the code's advance is the definition's
   judged : e ≡ judge N strip (advance c) t
-  judged = seen .0 ∙ ap (λ (a : Step). judge N strip a t) stepped
+  judged = seen .0
 
   moved : t′ ≡ performed N strip (advance c) t
-  moved = seen .1 ∙ ap (λ (a : Step). performed N strip a t) stepped
+  moved = seen .1
 
   went : (v : Bool) → b ≡ v → goes-on (judge N strip (advance c) t) ≡ v
   went v h = ap goes-on (sym judged) ∙ sym asked ∙ h
+
+  -- and where it goes on, the next meets no first refusal either
+  pub passes-again : b ≡ true → Passing N (c .0) (length strip) t′
+  passes-again h =
+      let (g, _) = and-true (accepted (judge N strip (advance c) t)) _ (went true h) in
+      subst (Passing N (c .0) (length strip)) (sym moved) (passing-on N strip c t g)
 
   -- it stops here
   pub stops-here : (most count : ℕ) {fuel : ℕ} {r : Answer} → fuel ≡ suc most → b ≡ false → r ≡ stopped count e

@@ -5,12 +5,12 @@ use cells::records::load;
 use model::Answer;
 use model::Numbers;
 use model::ReplicaId;
-use rounds::advance_of;
 use rounds::goes_on;
 use rounds::run_state;
 use rounds::run_vote;
 use rounds::stopped;
-use steps::perform_step;
+use steps::advances::advance_once;
+use tables::STATE;
 ghost use mathlib.Core.Path.{_≡_};
 ghost use Prim.Native.Nat.{_<_, _≤_};
 ghost use lib.ListN.{length};
@@ -18,9 +18,6 @@ ghost use Rattle.model.specs.Scripts.{ended};
 ghost use Rattle.tables.specs.Layout.{mask-bits, record-end};
 ghost use Rattle.tables.specs.Calls.{ran-on};
 ghost use Rattle.tables.specs.Lent.{moments};
-
-// The number that stands for the state round in a record.
-const STATE: u16 = 2;
 
 fn in_state_round(who: usize, words: &[u16]) -> bool
     requires { ⌜ (who < mask-bits) × (record-end who ≤ length (now words)) ⌝ }
@@ -43,7 +40,7 @@ pub fn run_on(
         let t = moments words orders ballots in
         ⌜ ended r (t .exit) ≡ ran-on numbers (now (strip .entry)) who (t .entry) ⌝ }
 {
-    let first = perform_step(advance_of(who), numbers, words, orders, ballots, strip);
+    let first = advance_once(numbers, who, false, words, orders, ballots, strip);
     if !goes_on(first) {
         return stopped(0, first);
     }

@@ -1,19 +1,19 @@
 // The rounds of a run on: "the state round hands over to the vote round, and the vote round back with a later phase". `left`
-// phases may follow; `count` advances were accepted so far. Inner code: no calls of the library.
-use model::Act;
+// phases may follow; `count` advances were accepted so far, so that no first refusal is met. Inner code: no calls of the library.
 use model::Answer;
 use model::Effect;
 use model::Numbers;
 use model::Refusal;
 use model::ReplicaId;
-use model::Step;
-use steps::perform_step;
+use steps::advances::advance_once;
 ghost use mathlib.Core.Path.{_≡_};
 ghost use Prim.Native.Nat.{_+_, _*_, _≤_};
+ghost use lib.ListN.{length};
 ghost use Rattle.model.specs.declared.Effect.the-variants.{Refuse};
-ghost use Rattle.model.specs.Scripts.{play, advance, goes-on, stopped as stopped-at, running, ended};
-ghost use Rattle.tables.specs.Calls.{on-tables};
+ghost use Rattle.model.specs.Scripts.{play, goes-on, stopped as stopped-at, running, ended};
+ghost use Rattle.tables.specs.Calls.{tables, on-tables};
 ghost use Rattle.tables.specs.Lent.{moments};
+ghost use Rattle.steps.specs.Admitted.{Passing};
 ghost use Rattle.runs.specs.Most.{most-steps};
 
 // An advance after which a run on goes on: accepted, and it closed no slot.
@@ -77,15 +77,6 @@ pub fn stopped(count: usize, effect: Effect) -> Answer
     }
 }
 
-pub fn advance_of(who: ReplicaId) -> Step
-    ensures { λ r. ⌜ r ≡ advance who ⌝ }
-{
-    Step {
-        who,
-        act: Act::Advance,
-    }
-}
-
 // In the state round.
 pub fn run_state(
     numbers: Numbers,
@@ -97,12 +88,13 @@ pub fn run_state(
     ballots: &mut [u8],
     strip: &[u8],
 ) -> Answer
-    requires { ⌜ count + 2 * left + 1 ≤ most-steps ⌝ }
+    requires { ⌜ (count + 2 * left + 1 ≤ most-steps)
+        × Passing numbers (who .0) (length (now strip)) (tables (now words) (now orders) (now ballots)) ⌝ }
     ensures { λ r.
         let t = moments words orders ballots in
         ⌜ ended r (t .exit) ≡ play (on-tables numbers (now (strip .entry))) (running who (2 * left + 1) count) (t .entry) ⌝ }
 {
-    let effect = perform_step(advance_of(who), numbers, words, orders, ballots, strip);
+    let effect = advance_once(numbers, who, true, words, orders, ballots, strip);
     if goes_on(effect) {
         return run_vote(numbers, who, left, count + 1, words, orders, ballots, strip);
     }
@@ -120,7 +112,8 @@ pub fn run_vote(
     ballots: &mut [u8],
     strip: &[u8],
 ) -> Answer
-    requires { ⌜ count + 2 * left ≤ most-steps ⌝ }
+    requires { ⌜ (count + 2 * left ≤ most-steps)
+        × Passing numbers (who .0) (length (now strip)) (tables (now words) (now orders) (now ballots)) ⌝ }
     ensures { λ r.
         let t = moments words orders ballots in
         ⌜ ended r (t .exit) ≡ play (on-tables numbers (now (strip .entry))) (running who (2 * left) count) (t .entry) ⌝ }
@@ -128,7 +121,7 @@ pub fn run_vote(
     if left == 0 {
         return Answer::Ran(count);
     }
-    let effect = perform_step(advance_of(who), numbers, words, orders, ballots, strip);
+    let effect = advance_once(numbers, who, true, words, orders, ballots, strip);
     if goes_on(effect) {
         return run_state(
             numbers,

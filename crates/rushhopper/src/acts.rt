@@ -1,12 +1,14 @@
 // The steps for callers in C. Each answers document 01's refusal number, 0 for an accepted step.
-use model::Act;
 use model::Message;
 use model::Numbers;
 use model::PhaseIndex;
 use model::ReplicaId;
 use model::SlotIndex;
-use model::Step;
-use steps::take_step;
+use steps::acts::begin;
+use steps::acts::hear;
+use steps::acts::relay;
+use steps::acts::submit;
+use steps::advances::advance;
 use values::answers::number_of;
 ghost use mathlib.Core.Path.{_≡_};
 ghost use Rattle.model.specs.declared.Act.the-variants.{Submit, Relay, Begin, Hear, Advance};
@@ -29,11 +31,7 @@ pub extern "C" fn rushhopper_submit(
         let o = stepped numbers (now (strip .entry)) (record { who = who; act = Submit tag }) (t .entry) in
         ⌜ (r ≡ o .number) × (t .exit ≡ o .state) ⌝ }
 {
-    let step = Step {
-        who,
-        act: Act::Submit(tag),
-    };
-    let answer = take_step(step, numbers, words, orders, ballots, strip);
+    let answer = submit(numbers, who, tag, words, orders, ballots, strip);
     number_of(answer)
 }
 
@@ -53,11 +51,7 @@ pub extern "C" fn rushhopper_relay(
         let o = stepped numbers (now (strip .entry)) (record { who = who; act = Relay tag }) (t .entry) in
         ⌜ (r ≡ o .number) × (t .exit ≡ o .state) ⌝ }
 {
-    let step = Step {
-        who,
-        act: Act::Relay(tag),
-    };
-    let answer = take_step(step, numbers, words, orders, ballots, strip);
+    let answer = relay(numbers, who, tag, words, orders, ballots, strip);
     number_of(answer)
 }
 
@@ -76,11 +70,7 @@ pub extern "C" fn rushhopper_begin(
         let o = stepped numbers (now (strip .entry)) (record { who = who; act = Begin }) (t .entry) in
         ⌜ (r ≡ o .number) × (t .exit ≡ o .state) ⌝ }
 {
-    let step = Step {
-        who,
-        act: Act::Begin,
-    };
-    let answer = take_step(step, numbers, words, orders, ballots, strip);
+    let answer = begin(numbers, who, words, orders, ballots, strip);
     number_of(answer)
 }
 
@@ -104,16 +94,13 @@ pub extern "C" fn rushhopper_hear(
         (record { who = who; act = Hear (record { sort = sort; slot = slot; phase = phase; sender = sender }) }) (t .entry) in
         ⌜ (r ≡ o .number) × (t .exit ≡ o .state) ⌝ }
 {
-    let step = Step {
-        who,
-        act: Act::Hear(Message {
-            sort,
-            slot,
-            phase,
-            sender,
-        }),
+    let message = Message {
+        sort,
+        slot,
+        phase,
+        sender,
     };
-    let answer = take_step(step, numbers, words, orders, ballots, strip);
+    let answer = hear(numbers, who, message, words, orders, ballots, strip);
     number_of(answer)
 }
 
@@ -132,10 +119,6 @@ pub extern "C" fn rushhopper_advance(
         let o = stepped numbers (now (strip .entry)) (record { who = who; act = Advance }) (t .entry) in
         ⌜ (r ≡ o .number) × (t .exit ≡ o .state) ⌝ }
 {
-    let step = Step {
-        who,
-        act: Act::Advance,
-    };
-    let answer = take_step(step, numbers, words, orders, ballots, strip);
+    let answer = advance(numbers, who, words, orders, ballots, strip);
     number_of(answer)
 }

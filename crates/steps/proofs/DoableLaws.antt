@@ -1,7 +1,7 @@
 -- What `judge` gives can be stored: each cell that its effect stores has a place.
 use Prim.Native.Nat.{ℕ, suc, _≤_, _<_}
 use native.Mathlib.Omega.{arith}
-use mathlib.Core.Bool.{Bool, true, false, not, _&&_, _||_}
+use mathlib.Core.Bool.{Bool, true, false, not, _&&_}
 use mathlib.Core.List.{List}
 use mathlib.Core.Logic.{_⊎_, inl, inr, ⊎-elim}
 use mathlib.Core.Path.{_≡_, refl, sym, _∙_, ap, subst}
@@ -25,6 +25,7 @@ use Rattle.model.specs.declared.Step.{Step}
 use Rattle.model.specs.Tests.{if, listed}
 use Rattle.model.specs.Limits.{limited}
 use Rattle.model.specs.Rack.{same-round, Replica}
+use Rattle.model.specs.Scripts.{advance}
 use Rattle.model.specs.Rules.{majority-tag, vote-of, next-state, phase-in}
 use Rattle.model.proofs.Cases.{or-false, if-ind, Unmet, unless-ind, unmet-both}
 use Rattle.safety.specs.Comes.{ByRule, by-submit, by-relay, by-begin, by-hear, by-exchange, by-state}
@@ -39,7 +40,7 @@ use Rattle.tables.specs.Sound.{Sound, sound, record-there, stands, own-view, in
 use Rattle.tables.specs.Calls.{lent-refusals, judge}
 use Rattle.messages.specs.Reach.{Fitting}
 use Rattle.known.specs.Room.{Storable}
-use Rattle.effects.specs.Doable.{RecordThere, Ready, Doable}
+use Rattle.effects.specs.Doable.{RecordThere, Ready, Doable, by-advance}
 
 -- the number of a state or a vote fits its byte
 say-fits : (b : Bool) → word-number (Say b) ≤ 3
@@ -133,3 +134,20 @@ module _ (N : Numbers) (t : Tables) where
       let (lent, rest) = unmet-both (lent-refusals N a t) _ u in
       let (acts, r) = past N (view N t) strip a rest in
       lent-doable (a .who) (a .act) lent (acts .there) r)
+
+-- what an advance comes to is one of its effects
+pub advance-by : (N : Numbers) (strip : List ℕ) (c : ReplicaId) (t : Tables) → by-advance (judge N strip (advance c) t) ≡ true
+unfolding judge
+advance-by N strip c t = unless-ind (λ (e : Effect). by-advance e ≡ true) _ (λ why. refl) (λ u.
+    let (_, rest) = unmet-both (lent-refusals N (advance c) t) _ u in
+    let (_, r) = past N (view N t) strip (advance c) rest in
+    by r)
+  where
+    by : {k : Replica} {e : Effect} → ByRule N (view N t) k Advance e → by-advance e ≡ true
+    by (by-exchange was enough) = refl
+    by (by-state was enough) = refl
+    by (by-outcome-0 v o) = refl
+    by (by-outcome-1 v o some) = refl
+    by (by-seek v o none) = refl
+    by (by-next-phase flip v o more) = refl
+    by (by-find was some) = refl

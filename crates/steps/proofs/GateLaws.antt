@@ -1,11 +1,11 @@
 -- What `judge` asks first is what the code asks first; and what is known behind it.
-use Prim.Native.Nat.{ℕ, _≤_, _<_, _*_}
+use Prim.Native.Nat.{ℕ, _*_}
 use mathlib.Core.Bool.{Bool, true, false, not, _&&_, _||_, or-self, or-false as or-no}
 use mathlib.Core.List.{List, [], _∷_}
 use mathlib.Core.Path.{_≡_, refl, sym, _∙_, ap}
 use lib.Dec.{leb, ltb, eqb}
 use lib.ListN.{length}
-use borrow.Author.Tests.{leb-false, ltb-false}
+use borrow.Author.Tests.{leb-false, ltb-false, eqb-true, not-false}
 use Rattle.model.specs.declared.Numbers.{Numbers}
 use Rattle.model.specs.declared.ReplicaId.{ReplicaId}
 use Rattle.model.specs.declared.Refusal.{Refusal}
@@ -14,7 +14,6 @@ use Rattle.model.specs.declared.Effect.{Effect}
 use Rattle.model.specs.declared.Effect.the-variants.{Refuse, Halt}
 use Rattle.model.specs.declared.Act.{Act}
 use Rattle.model.specs.declared.Act.the-variants.{Submit, Relay, Begin, Hear, Advance, Crash}
-use Rattle.model.specs.declared.Step.{Step}
 use Rattle.tables.specs.declared.Record.{Record}
 use Rattle.tables.specs.declared.Lengths.{Lengths}
 use Rattle.model.specs.Tests.{if}
@@ -30,35 +29,35 @@ use Rattle.tables.specs.Sound.{sound, own-view}
 use Rattle.tables.specs.Calls.{judge}
 use Rattle.refusals.specs.declared.Vetted.{Vetted}
 use Rattle.refusals.specs.declared.Vetted.the-variants.{Refused, Passed}
-use Rattle.refusals.specs.Vet.{first-asked, vetted}
-use Rattle.steps.specs.Admitted.{other, crash-judged, Admitted}
+use Rattle.refusals.specs.Vet.{run-spoiled, first-asked, vetted}
+use Rattle.steps.specs.Admitted.{other, crash-judged, first-vetted, Admitted}
 
 -- ---- one list of refusals, read as what is vetted and as an effect
 
 abbrev behind : Effect → Vetted → Effect
 behind e (Refused why) = Refuse why
-behind e (Passed k) = e
+behind e Passed = e
 
-behind-unless : (e : Effect) (k : Record) (gs : List Ground) → behind e (unless Refused gs (Passed k)) ≡ unless Refuse gs e
+behind-unless : (e : Effect) (gs : List Ground) → behind e (unless Refused gs Passed) ≡ unless Refuse gs e
 unfolding unless if
-behind-unless e k [] = refl
-behind-unless e k (g ∷ gs) = go (g .met) (behind-unless e k gs)
+behind-unless e [] = refl
+behind-unless e (g ∷ gs) = go (g .met) (behind-unless e gs)
   where
-    go : (b : Bool) → behind e (unless Refused gs (Passed k)) ≡ unless Refuse gs e
-        → behind e (if b (Refused (g .why)) (unless Refused gs (Passed k))) ≡ if b (Refuse (g .why)) (unless Refuse gs e)
+    go : (b : Bool) → behind e (unless Refused gs Passed) ≡ unless Refuse gs e
+        → behind e (if b (Refused (g .why)) (unless Refused gs Passed)) ≡ if b (Refuse (g .why)) (unless Refuse gs e)
     go true below = refl
     go false below = below
 
 -- where it passed, no refusal was met
-passed-unmet : (k : Record) (gs : List Ground) {j : Record} → unless Refused gs (Passed k) ≡ Passed j → Unmet gs × (k ≡ j)
+passed-unmet : (gs : List Ground) → unless Refused gs Passed ≡ Passed → Unmet gs
 unfolding unless Unmet if
-passed-unmet k [] e = (tt, cc)
-passed-unmet k (g ∷ gs) {j} e = go (g .met) refl e (passed-unmet k gs)
+passed-unmet [] e = tt
+passed-unmet (g ∷ gs) e = go (g .met) refl e (passed-unmet gs)
   where
-    go : (b : Bool) → g .met ≡ b → if b (Refused (g .why)) (unless Refused gs (Passed k)) ≡ Passed j
-        → (unless Refused gs (Passed k) ≡ Passed j → Unmet gs × (k ≡ j)) → ((g .met ≡ false) × Unmet gs) × (k ≡ j)
+    go : (b : Bool) → g .met ≡ b → if b (Refused (g .why)) (unless Refused gs Passed) ≡ Passed
+        → (unless Refused gs Passed ≡ Passed → Unmet gs) → (g .met ≡ false) × Unmet gs
     go true q e below = absurd (never cc)
-    go false q e below = let (u, same) = below e in ((q, u), same)
+    go false q e below = (q, below e)
 
 -- ---- `judge` behind what is asked first
 
@@ -122,39 +121,53 @@ module _ (N : Numbers) (strip : List ℕ) (t : Tables) (c : ReplicaId) where
 
   -- ---- what the code has vetted
 
-  module _ (a : Act) (alive : is-crash a ≡ false) {v : Vetted} {d : ℕ} {l : Lengths} {s : ℕ} (names : d ≡ other (c .0) a) (measured : l ≡ lengths t)
-      (sized : s ≡ length strip) (asked : v ≡ vetted N (c .0) d l s (t .words)) where
-    seen : v ≡ vetted N (c .0) (other (c .0) a) (lengths t) (length strip) (t .words)
-    seen = asked ∙ (λ i. vetted N (c .0) (names i) (measured i) (sized i) (t .words))
+  module _ (d : ℕ) where
+    pub spoiled-first : {b : Bool} → b ≡ run-spoiled N (t .words) → b ≡ true → Refused SpoiledRecord ≡ first-vetted N (c .0) d (length strip) t
+    unfolding first-vetted unless if
+    spoiled-first is h = rw (sym is ∙ h)
 
+    pub vetted-next : {b : Bool} {v : Vetted} {l : Lengths} → b ≡ run-spoiled N (t .words) → b ≡ false → l ≡ lengths t
+        → v ≡ vetted N (c .0) d l (length strip) (t .words) → v ≡ first-vetted N (c .0) d (length strip) t
+    unfolding first-vetted vetted unless if
+    vetted-next is h measured q = q ∙ (λ i. vetted N (c .0) d (measured i) (length strip) (t .words)) ∙ rw (sym is ∙ h)
+
+  module _ (a : Act) (alive : is-crash a ≡ false) {v : Vetted} (asked : v ≡ first-vetted N (c .0) (other (c .0) a) (length strip) t) where
     judged : behind (ruled a here) v ≡ judge N strip (record { who = c; act = a }) t
-    unfolding vetted
-    judged = ap (behind (ruled a here)) seen ∙ behind-unless _ _ _ ∙ sym (judge-behind a alive)
+    unfolding first-vetted
+    judged = ap (behind (ruled a here)) asked ∙ behind-unless _ _ ∙ sym (judge-behind a alive)
 
     pub judge-stops : {why : Refusal} → v ≡ Refused why → Refuse why ≡ judge N strip (record { who = c; act = a }) t
     judge-stops e = ap (behind (ruled a here)) (sym e) ∙ judged
 
-    pub judge-rules : {j : Record} {r : Effect} → v ≡ Passed j → r ≡ ruled a here → r ≡ judge N strip (record { who = c; act = a }) t
+    pub judge-rules : {r : Effect} → v ≡ Passed → r ≡ ruled a here → r ≡ judge N strip (record { who = c; act = a }) t
     judge-rules e q = q ∙ ap (behind (ruled a here)) (sym e) ∙ judged
 
-    pub admitted : {j : Record} → v ≡ Passed j → Admitted N (c .0) (other (c .0) a) t × (j ≡ k) × (N .slots * N .phases ≤ length strip)
-    unfolding vetted Unmet
+    pub admitted : v ≡ Passed → Admitted N (c .0) (other (c .0) a) (length strip) t
+    unfolding first-vetted Unmet
     admitted e =
-        let ((spoiled, (short, (few, (nobody, _)))), same) = passed-unmet k (first-asked N (c .0) (other (c .0) a) (lengths t) (length strip) (t .words))
-        (sym seen ∙ e) in
+        let (spoiled, (short, (few, (nobody, (dark, _))))) = passed-unmet (first-asked N (c .0) (other (c .0) a) (lengths t) (length strip) (t .words))
+        (sym asked ∙ e) in
         let (there, named) = or-false (leb n (c .0)) _ nobody in
-        (record { fine = sound N t (spoiled, (short, tt)); who = leb-false _ _ there; named = leb-false _ _ named }, sym same, ltb-false _ _ few)
+        record {
+          fine = sound N t (spoiled, (short, tt));
+          coins = ltb-false _ _ few;
+          who = leb-false _ _ there;
+          named = leb-false _ _ named;
+          running = eqb-true _ _ (not-false _ dark);
+        }
 
--- ---- the step that the code was handed
+  -- the same of what the code has asked one after the other
+  pub stops-spoiled : (a : Act) → is-crash a ≡ false → {b : Bool} → b ≡ run-spoiled N (t .words) → b ≡ true
+      → Refuse SpoiledRecord ≡ judge N strip (record { who = c; act = a }) t
+  stops-spoiled a alive is h = judge-stops a alive (spoiled-first (other (c .0) a) is h) refl
 
-module _ (N : Numbers) (strip : List ℕ) (t : Tables) (a : Step) where
-  pub crash-alike : {b : Bool} {r : Effect} → b ≡ is-crash (a .act) → b ≡ true → r ≡ crash-judged N (a .who .0) (t .words) → r ≡ judge N strip a t
-  crash-alike {b} {r} is crashes q = go (a .act) (sym is ∙ crashes)
-    where
-      go : (x : Act) → is-crash x ≡ true → r ≡ judge N strip (record { who = a .who; act = x }) t
-      go (Submit x) e = clash e
-      go (Relay x) e = clash e
-      go Begin e = clash e
-      go (Hear m) e = clash e
-      go Advance e = clash e
-      go Crash e = q ∙ sym (crash-behind N strip t (a .who))
+  module _ (a : Act) (alive : is-crash a ≡ false) {b : Bool} {v : Vetted} {l : Lengths} (is : b ≡ run-spoiled N (t .words)) (h : b ≡ false)
+      (measured : l ≡ lengths t) (q : v ≡ vetted N (c .0) (other (c .0) a) l (length strip) (t .words)) where
+    pub stops-vetted : {why : Refusal} → v ≡ Refused why → Refuse why ≡ judge N strip (record { who = c; act = a }) t
+    stops-vetted e = judge-stops a alive (vetted-next (other (c .0) a) is h measured q) e
+
+    pub rules-vetted : {r : Effect} → v ≡ Passed → r ≡ ruled a here → r ≡ judge N strip (record { who = c; act = a }) t
+    rules-vetted e = judge-rules a alive (vetted-next (other (c .0) a) is h measured q) e
+
+    pub admits-vetted : v ≡ Passed → Admitted N (c .0) (other (c .0) a) (length strip) t
+    admits-vetted e = admitted a alive (vetted-next (other (c .0) a) is h measured q) e

@@ -4,3 +4,4 @@ pub mod CrashLaws
 pub mod RuleLaws
 pub mod DoableLaws
 pub mod StepLaws
+pub mod ActLaws

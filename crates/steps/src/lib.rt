@@ -1,59 +1,24 @@
-// Any step: it is judged, then carried out. The call of the library is `take_step`; it has no `requires`.
-pub mod judge;
+// The steps: each is judged, and what it comes to is stored. Any step as a value: `take_step`. The calls of the library have no
+// `requires`.
+pub mod acts;
+pub mod advances;
+pub mod crashes;
+mod effect;
 
-use effects::carry::carry_out;
-use judge::judge_step;
+use acts::begin;
+use acts::hear;
+use acts::relay;
+use acts::submit;
+use advances::advance;
+use crashes::crash;
+use model::Act;
 use model::Answer;
-use model::Effect;
 use model::Numbers;
 use model::Step;
 ghost use mathlib.Core.Path.{_≡_};
-ghost use Rattle.model.specs.declared.Answer.the-variants.{Done};
-ghost use Rattle.model.specs.Scripts.{answered, ended};
-ghost use Rattle.tables.specs.Calls.{judge, performed, stepped};
+ghost use Rattle.model.specs.Scripts.{ended};
+ghost use Rattle.tables.specs.Calls.{stepped};
 ghost use Rattle.tables.specs.Lent.{moments};
-
-// Only here is a step judged or carried out, so that the compiler joins the two.
-pub fn perform_step(
-    step: Step,
-    numbers: Numbers,
-    words: &mut [u16],
-    orders: &mut [u64],
-    ballots: &mut [u8],
-    strip: &[u8],
-) -> Effect
-    ensures { λ r.
-        let t = moments words orders ballots in
-        ⌜ (r ≡ judge numbers (now (strip .entry)) step (t .entry)) × (t .exit ≡ performed numbers (now (strip .entry)) step (t .entry)) ⌝ }
-{
-    let effect = judge_step(step, numbers, words, orders, ballots, strip);
-    carry_out(numbers, step.who.0, effect, words, orders, ballots);
-    effect
-}
-
-fn answer_of(effect: Effect) -> Answer
-    ensures { λ r. ⌜ r ≡ answered Done effect ⌝ }
-{
-    match effect {
-        Effect::Refuse(why) => Answer::Refused(why),
-        Effect::Hold(_) => Answer::Done,
-        Effect::Send {
-            sort: _,
-            phase: _,
-            word: _,
-        } => Answer::Done,
-        Effect::Close(_) => Answer::Done,
-        Effect::Seek => Answer::Done,
-        Effect::Receive {
-            sort: _,
-            slot: _,
-            phase: _,
-            sender: _,
-            word: _,
-        } => Answer::Done,
-        Effect::Halt => Answer::Done,
-    }
-}
 
 // Submit, relay, begin, hear, advance or crash; a crash is lent the record of the words.
 pub fn take_step(
@@ -68,6 +33,14 @@ pub fn take_step(
         let t = moments words orders ballots in
         ⌜ ended r (t .exit) ≡ stepped numbers (now (strip .entry)) step (t .entry) ⌝ }
 {
-    let effect = perform_step(step, numbers, words, orders, ballots, strip);
-    answer_of(effect)
+    let who = step.who;
+    let act = step.act;
+    match act {
+        Act::Submit(tag) => submit(numbers, who, tag, words, orders, ballots, strip),
+        Act::Relay(tag) => relay(numbers, who, tag, words, orders, ballots, strip),
+        Act::Begin => begin(numbers, who, words, orders, ballots, strip),
+        Act::Hear(message) => hear(numbers, who, message, words, orders, ballots, strip),
+        Act::Advance => advance(numbers, who, words, orders, ballots, strip),
+        Act::Crash => crash(numbers, who, words),
+    }
 }

@@ -5,8 +5,9 @@ use Rattle.tables.specs.Layout.{mask-bits, record-end}
 use native.Mathlib.Omega.{arith}
 use borrow.Author.Tests.{not-true, not-false}
 use Prim.Native.Nat.{_+_, _*_}
+use Rattle.model.proofs.Cases.{clash}
 use Rattle.tables.specs.Calls.{tables}
-use Rattle.runs.proofs.RunLaws.{first-stops, first-goes, started}
+use Rattle.runs.proofs.RunLaws.{passes-again, first-stops, first-goes, started}
 use borrow.Author.Needs.{needs}
 use Rattle.runs.proofs.run_on.Statement.{statement}
 use Rattle.runs.proofs.run_on.Tie as tie
@@ -19,25 +20,27 @@ begun : (k : tie.Else1) → let a = called k .args in (a .numbers .phases ≤ mo
     × (record-end (a .who .0) ≤ length (a .words .now))
 begun k =
     let after-goes-on : tie.After-goes-on = search in
-    let after-perform-step : tie.After-perform-step = search in
-    let after-advance-of : tie.After-advance-of = search in
+    let after-advance-once : tie.After-advance-once = search in
     let a = called k .args in
-    let s = started _ _ _ (tables (a .words .now) (a .orders .now) (a .ballots .now)) (after-advance-of .advance-of .ensures)
-    (after-perform-step .perform-step .ensures) (after-goes-on .goes-on .ensures) (not-false _ (k .if1 .left)) in
+    let s = started _ _ _ (tables (a .words .now) (a .orders .now) (a .ballots .now))
+    (after-advance-once .advance-once .ensures) (after-goes-on .goes-on .ensures) (not-false _ (k .if1 .left)) in
     (s .phases, s .few, s .there)
+
+-- nothing is said to be known before the first advance
+advance-once-requires : tie.Need-advance-once-requires
+advance-once-requires c κs = λ e. clash e
 
 returns : tie.Need-returns
 returns c =
-    let after-advance-of : tie.After-advance-of = search in
-    let after-perform-step : tie.After-perform-step = search in
+    let after-advance-once : tie.After-advance-once = search in
     let after-goes-on : tie.After-goes-on = search in
-    first-stops _ _ _ _ (after-advance-of .advance-of .ensures) (after-perform-step .perform-step .ensures) (after-goes-on .goes-on .ensures)
+    first-stops _ _ _ _ (after-advance-once .advance-once .ensures) (after-goes-on .goes-on .ensures)
     (not-true _ (c .before .if1 .taken)) (c .stopped .ensures)
 
 in-state-round-requires : tie.Need-in-state-round-requires
 in-state-round-requires c κs =
-    let after-perform-step : tie.After-perform-step = search in
-    let same = after-perform-step .perform-step .kept .1 .1 .0 in
+    let after-advance-once : tie.After-advance-once = search in
+    let same = after-advance-once .advance-once .kept .1 .1 .0 in
     (begun (c .before) .1, omega (arith, begun (c .before) .2))
 
 add-left : tie.Need-add-left
@@ -48,17 +51,22 @@ add-left c =
 run-state-requires : tie.Need-run-state-requires
 run-state-requires c κs =
     let else1 : tie.Else1 = search in
-    omega (arith, begun else1 .0)
+    let after-goes-on : tie.After-goes-on = search in
+    let after-advance-once : tie.After-advance-once = search in
+    let a = called else1 .args in (
+      omega (arith, begun else1 .0),
+      passes-again _ (a .strip .now) _ (tables (a .words .now) (a .orders .now) (a .ballots .now)) (after-advance-once .advance-once .ensures)
+          (after-goes-on .goes-on .ensures) (not-false _ (else1 .if1 .left)),
+    )
 
 returns-2 : tie.Need-returns-2
 returns-2 c =
     let after-run-state : tie.After-run-state = search in
     let else1 : tie.Else1 = search in
     let after-goes-on : tie.After-goes-on = search in
-    let after-perform-step : tie.After-perform-step = search in
-    let after-advance-of : tie.After-advance-of = search in
+    let after-advance-once : tie.After-advance-once = search in
     let start : tie.Start = search in
-    first-goes _ _ _ _ (after-advance-of .advance-of .ensures) (after-perform-step .perform-step .ensures) (after-goes-on .goes-on .ensures)
+    first-goes _ _ _ _ (after-advance-once .advance-once .ensures) (after-goes-on .goes-on .ensures)
     (2 * (start .args .numbers .phases + 2) + 1) (omega arith) (not-false _ (else1 .if1 .left)) (after-run-state .run-state .ensures)
 
 add-left-2 : tie.Need-add-left-2
@@ -69,25 +77,29 @@ add-left-2 c =
 run-vote-requires : tie.Need-run-vote-requires
 run-vote-requires c κs =
     let else1 : tie.Else1 = search in
-    omega (arith, begun else1 .0)
+    let after-goes-on : tie.After-goes-on = search in
+    let after-advance-once : tie.After-advance-once = search in
+    let a = called else1 .args in (
+      omega (arith, begun else1 .0),
+      passes-again _ (a .strip .now) _ (tables (a .words .now) (a .orders .now) (a .ballots .now)) (after-advance-once .advance-once .ensures)
+          (after-goes-on .goes-on .ensures) (not-false _ (else1 .if1 .left)),
+    )
 
 returns-3 : tie.Need-returns-3
 returns-3 c =
     let after-run-vote : tie.After-run-vote = search in
     let else1 : tie.Else1 = search in
     let after-goes-on : tie.After-goes-on = search in
-    let after-perform-step : tie.After-perform-step = search in
-    let after-advance-of : tie.After-advance-of = search in
+    let after-advance-once : tie.After-advance-once = search in
     let start : tie.Start = search in
-    first-goes _ _ _ _ (after-advance-of .advance-of .ensures) (after-perform-step .perform-step .ensures) (after-goes-on .goes-on .ensures)
+    first-goes _ _ _ _ (after-advance-once .advance-once .ensures) (after-goes-on .goes-on .ensures)
     (2 * (start .args .numbers .phases + 3)) (omega arith) (not-false _ (else1 .if1 .left)) (after-run-vote .run-vote .ensures)
 
 pub run-on-spec : {M : Type 1} → statement M
 run-on-spec =
     tie.close
     (tie.spec
-    (λ c κs. search needs)
-    (λ c κs. search needs)
+    advance-once-requires
     (λ c κs. search needs)
     (λ c κs. search needs)
     (λ c. search needs)

@@ -4,7 +4,8 @@ use native.Mathlib.Numerals.{add-one}
 use Prim.Native.Nat.{suc, _+_, _-_, _*_}
 use mathlib.Core.Path.{_≡_}
 use borrow.Author.Needs.{needs}
-use Rattle.runs.proofs.RunLaws.{run-out, stops-here, goes-further}
+use Rattle.tables.specs.Calls.{tables}
+use Rattle.runs.proofs.RunLaws.{run-out, passes-again, stops-here, goes-further}
 use Prim.Native.Nat.{ℕ, _<_}
 use borrow.Fn.Kinds.{In}
 use borrow.Fn.PlainCycle.{Measures, is, falls, and}
@@ -14,10 +15,9 @@ use Rattle.runs.proofs.rounds.+run_state+run_vote.Lts-run_state as run-
 use Rattle.runs.proofs.rounds.run_vote.Reads as run-vote
 use Rattle.runs.proofs.rounds.run_vote.Kinds as run-vote-kinds
 use Rattle.runs.proofs.rounds.+run_state+run_vote.Lts-run_vote as run-vote-lts
-use Rattle.runs.proofs.rounds.advance_of.Reads as advance-of-reads
 use Rattle.runs.proofs.rounds.goes_on.Reads as goes-on-reads
 use Rattle.runs.proofs.rounds.stopped.Reads as stopped-reads
-use Rattle.steps.proofs.perform_step.Reads as perform-step-reads
+use Rattle.steps.proofs.advances.advance_once.Reads as advance-once-reads
 use Rattle.runs.proofs.rounds.+run_state+run_vote.{statement}
 use Rattle.runs.proofs.rounds.+run_state+run_vote.Tie.{close}
 
@@ -43,10 +43,8 @@ run-vote-below t =
 
 abbrev run-state-calls : ℕ → run-state-lts.Claims
 run-state-calls t = (
-  advance-of-reads.Asked,
-  advance-of-reads.Learnt,
-  perform-step-reads.Asked,
-  perform-step-reads.Learnt,
+  advance-once-reads.Asked,
+  advance-once-reads.Learnt,
   goes-on-reads.Asked,
   goes-on-reads.Learnt,
   run-vote-below t,
@@ -55,31 +53,45 @@ run-state-calls t = (
   stopped-reads.Learnt,
 )
 
+run-state-advance-once-requires : (t : ℕ) → run-state-lts.Need-advance-once-requires (run-state-calls t) (run-state-at t) run-state.Post
+run-state-advance-once-requires t c κs =
+    let start : run-state-lts.Start (run-state-calls t) (run-state-at t) run-state.Post = search in
+    λ _. start .pre .1 .1
+
 run-state-add-run-vote : (t : ℕ) → run-state-lts.Need-add-run-vote (run-state-calls t) (run-state-at t) run-state.Post
 run-state-add-run-vote t c =
     let start : run-state-lts.Start (run-state-calls t) (run-state-at t) run-state.Post = search in
-    let q = start .pre .1 in omega arith
+    let q = start .pre .1 .0 in omega arith
 
 run-state-run-vote-requires : (t : ℕ) → run-state-lts.Need-run-vote-requires (run-state-calls t) (run-state-at t) run-state.Post
 run-state-run-vote-requires t c κs =
     let start : run-state-lts.Start (run-state-calls t) (run-state-at t) run-state.Post = search in
-    (let p = start .pre .0 in omega arith, let q = start .pre .1 in omega arith)
+    let after-goes-on : run-state-lts.After-goes-on (run-state-calls t) (run-state-at t) run-state.Post = search in
+    let after-advance-once : run-state-lts.After-advance-once (run-state-calls t) (run-state-at t) run-state.Post = search in
+    let then1 : run-state-lts.Then1 (run-state-calls t) (run-state-at t) run-state.Post = search in
+    let a = start .args in (
+      let p = start .pre .0 in omega arith,
+      (
+        let q = start .pre .1 .0 in omega arith,
+        passes-again _ (a .strip .now) _ (tables (a .words .now) (a .orders .now) (a .ballots .now)) (after-advance-once .advance-once .ensures)
+            (after-goes-on .goes-on .ensures) (then1 .if1 .taken),
+      ),
+    )
 
 run-state-stopped-requires : (t : ℕ) → run-state-lts.Need-stopped-requires (run-state-calls t) (run-state-at t) run-state.Post
 run-state-stopped-requires t c κs =
     let start : run-state-lts.Start (run-state-calls t) (run-state-at t) run-state.Post = search in
-    let q = start .pre .1 in omega arith
+    let q = start .pre .1 .0 in omega arith
 
 run-state-returns : (t : ℕ) → run-state-lts.Need-returns (run-state-calls t) (run-state-at t) run-state.Post
 run-state-returns t c =
     let after-run-vote : run-state-lts.After-run-vote (run-state-calls t) (run-state-at t) run-state.Post = search in
     let then1 : run-state-lts.Then1 (run-state-calls t) (run-state-at t) run-state.Post = search in
     let after-goes-on : run-state-lts.After-goes-on (run-state-calls t) (run-state-at t) run-state.Post = search in
-    let after-perform-step : run-state-lts.After-perform-step (run-state-calls t) (run-state-at t) run-state.Post = search in
-    let after-advance-of : run-state-lts.After-advance-of (run-state-calls t) (run-state-at t) run-state.Post = search in
+    let after-advance-once : run-state-lts.After-advance-once (run-state-calls t) (run-state-at t) run-state.Post = search in
     let start : run-state-lts.Start (run-state-calls t) (run-state-at t) run-state.Post = search in
     let a = start .args in
-    goes-further _ _ _ _ (after-advance-of .advance-of .ensures) (after-perform-step .perform-step .ensures) (after-goes-on .goes-on .ensures)
+    goes-further _ _ _ _ (after-advance-once .advance-once .ensures) (after-goes-on .goes-on .ensures)
     (2 * a .left) _ (add-one _)
     (then1 .if1 .taken) (after-run-vote .run-vote .ensures)
 
@@ -87,20 +99,17 @@ run-state-returns-2 : (t : ℕ) → run-state-lts.Need-returns-2 (run-state-call
 run-state-returns-2 t c =
     let else1 : run-state-lts.Else1 (run-state-calls t) (run-state-at t) run-state.Post = search in
     let after-goes-on : run-state-lts.After-goes-on (run-state-calls t) (run-state-at t) run-state.Post = search in
-    let after-perform-step : run-state-lts.After-perform-step (run-state-calls t) (run-state-at t) run-state.Post = search in
-    let after-advance-of : run-state-lts.After-advance-of (run-state-calls t) (run-state-at t) run-state.Post = search in
+    let after-advance-once : run-state-lts.After-advance-once (run-state-calls t) (run-state-at t) run-state.Post = search in
     let start : run-state-lts.Start (run-state-calls t) (run-state-at t) run-state.Post = search in
     let a = start .args in
-    stops-here _ _ _ _ (after-advance-of .advance-of .ensures) (after-perform-step .perform-step .ensures) (after-goes-on .goes-on .ensures)
+    stops-here _ _ _ _ (after-advance-once .advance-once .ensures) (after-goes-on .goes-on .ensures)
     (2 * a .left) _ (add-one _)
     (else1 .if1 .left) (c .stopped .ensures)
 
 abbrev run-vote-calls : ℕ → run-vote-lts.Claims
 run-vote-calls t = (
-  advance-of-reads.Asked,
-  advance-of-reads.Learnt,
-  perform-step-reads.Asked,
-  perform-step-reads.Learnt,
+  advance-once-reads.Asked,
+  advance-once-reads.Learnt,
   goes-on-reads.Asked,
   goes-on-reads.Learnt,
   run-state-below t,
@@ -114,6 +123,11 @@ run-vote-returns t c =
     let start : run-vote-lts.Start (run-vote-calls t) (run-vote-at t) run-vote.Post = search in
     run-out _ _ _ _ _ (c .if1 .taken)
 
+run-vote-advance-once-requires : (t : ℕ) → run-vote-lts.Need-advance-once-requires (run-vote-calls t) (run-vote-at t) run-vote.Post
+run-vote-advance-once-requires t c κs =
+    let start : run-vote-lts.Start (run-vote-calls t) (run-vote-at t) run-vote.Post = search in
+    λ _. start .pre .1 .1
+
 run-vote-sub-run-state : (t : ℕ) → run-vote-lts.Need-sub-run-state (run-vote-calls t) (run-vote-at t) run-vote.Post
 run-vote-sub-run-state t c =
     let else1 : run-vote-lts.Else1 (run-vote-calls t) (run-vote-at t) run-vote.Post = search in
@@ -122,32 +136,41 @@ run-vote-sub-run-state t c =
 run-vote-add-run-state : (t : ℕ) → run-vote-lts.Need-add-run-state (run-vote-calls t) (run-vote-at t) run-vote.Post
 run-vote-add-run-state t c =
     let start : run-vote-lts.Start (run-vote-calls t) (run-vote-at t) run-vote.Post = search in
-    let q = start .pre .1 in omega arith
+    let q = start .pre .1 .0 in omega arith
 
 run-vote-run-state-requires : (t : ℕ) → run-vote-lts.Need-run-state-requires (run-vote-calls t) (run-vote-at t) run-vote.Post
 run-vote-run-state-requires t c κs =
     let else1 : run-vote-lts.Else1 (run-vote-calls t) (run-vote-at t) run-vote.Post = search in
     let start : run-vote-lts.Start (run-vote-calls t) (run-vote-at t) run-vote.Post = search in
     let some = pos-of-ne-zero (else1 .if1 .left) in
-    (let p = start .pre .0 in omega arith, let q = start .pre .1 in omega arith)
+    let after-goes-on : run-vote-lts.After-goes-on (run-vote-calls t) (run-vote-at t) run-vote.Post = search in
+    let after-advance-once : run-vote-lts.After-advance-once (run-vote-calls t) (run-vote-at t) run-vote.Post = search in
+    let then2 : run-vote-lts.Then2 (run-vote-calls t) (run-vote-at t) run-vote.Post = search in
+    let a = start .args in (
+      let p = start .pre .0 in omega arith,
+      (
+        let q = start .pre .1 .0 in omega arith,
+        passes-again _ (a .strip .now) _ (tables (a .words .now) (a .orders .now) (a .ballots .now)) (after-advance-once .advance-once .ensures)
+            (after-goes-on .goes-on .ensures) (then2 .if2 .taken),
+      ),
+    )
 
 run-vote-stopped-requires : (t : ℕ) → run-vote-lts.Need-stopped-requires (run-vote-calls t) (run-vote-at t) run-vote.Post
 run-vote-stopped-requires t c κs =
     let start : run-vote-lts.Start (run-vote-calls t) (run-vote-at t) run-vote.Post = search in
-    let q = start .pre .1 in omega arith
+    let q = start .pre .1 .0 in omega arith
 
 run-vote-returns-2 : (t : ℕ) → run-vote-lts.Need-returns-2 (run-vote-calls t) (run-vote-at t) run-vote.Post
 run-vote-returns-2 t c =
     let after-run-state : run-vote-lts.After-run-state (run-vote-calls t) (run-vote-at t) run-vote.Post = search in
     let then2 : run-vote-lts.Then2 (run-vote-calls t) (run-vote-at t) run-vote.Post = search in
     let after-goes-on : run-vote-lts.After-goes-on (run-vote-calls t) (run-vote-at t) run-vote.Post = search in
-    let after-perform-step : run-vote-lts.After-perform-step (run-vote-calls t) (run-vote-at t) run-vote.Post = search in
-    let after-advance-of : run-vote-lts.After-advance-of (run-vote-calls t) (run-vote-at t) run-vote.Post = search in
+    let after-advance-once : run-vote-lts.After-advance-once (run-vote-calls t) (run-vote-at t) run-vote.Post = search in
     let else1 : run-vote-lts.Else1 (run-vote-calls t) (run-vote-at t) run-vote.Post = search in
     let start : run-vote-lts.Start (run-vote-calls t) (run-vote-at t) run-vote.Post = search in
     let a = start .args in
     let fuel : 2 * a .left ≡ suc (2 * (a .left - 1) + 1) = omega (arith, pos-of-ne-zero (else1 .if1 .left)) in
-    goes-further _ _ _ _ (after-advance-of .advance-of .ensures) (after-perform-step .perform-step .ensures) (after-goes-on .goes-on .ensures)
+    goes-further _ _ _ _ (after-advance-once .advance-once .ensures) (after-goes-on .goes-on .ensures)
     (2 * (a .left - 1) + 1) _ fuel
     (then2 .if2 .taken) (after-run-state .run-state .ensures)
 
@@ -155,13 +178,12 @@ run-vote-returns-3 : (t : ℕ) → run-vote-lts.Need-returns-3 (run-vote-calls t
 run-vote-returns-3 t c =
     let else2 : run-vote-lts.Else2 (run-vote-calls t) (run-vote-at t) run-vote.Post = search in
     let after-goes-on : run-vote-lts.After-goes-on (run-vote-calls t) (run-vote-at t) run-vote.Post = search in
-    let after-perform-step : run-vote-lts.After-perform-step (run-vote-calls t) (run-vote-at t) run-vote.Post = search in
-    let after-advance-of : run-vote-lts.After-advance-of (run-vote-calls t) (run-vote-at t) run-vote.Post = search in
+    let after-advance-once : run-vote-lts.After-advance-once (run-vote-calls t) (run-vote-at t) run-vote.Post = search in
     let else1 : run-vote-lts.Else1 (run-vote-calls t) (run-vote-at t) run-vote.Post = search in
     let start : run-vote-lts.Start (run-vote-calls t) (run-vote-at t) run-vote.Post = search in
     let a = start .args in
     let fuel : 2 * a .left ≡ suc (2 * (a .left - 1) + 1) = omega (arith, pos-of-ne-zero (else1 .if1 .left)) in
-    stops-here _ _ _ _ (after-advance-of .advance-of .ensures) (after-perform-step .perform-step .ensures) (after-goes-on .goes-on .ensures)
+    stops-here _ _ _ _ (after-advance-once .advance-once .ensures) (after-goes-on .goes-on .ensures)
     (2 * (a .left - 1) + 1) _ fuel
     (else2 .if2 .left) (c .stopped .ensures)
 
@@ -169,8 +191,7 @@ pub +run-state+run-vote-spec : {M : Type 1} → statement M
 +run-state+run-vote-spec = close μ-run-state μ-run-vote (λ t. run-state-lts.spec (run-state-calls t)
     (run-state-at t)
     run-state.Post
-    (λ c κs. search needs)
-    (λ c κs. search needs)
+    (run-state-advance-once-requires t)
     (λ c κs. search needs)
     (run-state-add-run-vote t)
     (run-state-run-vote-requires t)
@@ -187,8 +208,7 @@ pub +run-state+run-vote-spec : {M : Type 1} → statement M
     (run-vote-at t)
     run-vote.Post
     (run-vote-returns t)
-    (λ c κs. search needs)
-    (λ c κs. search needs)
+    (run-vote-advance-once-requires t)
     (λ c κs. search needs)
     (run-vote-sub-run-state t)
     (run-vote-add-run-state t)

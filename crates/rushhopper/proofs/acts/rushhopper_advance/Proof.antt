@@ -5,8 +5,8 @@ use Rattle.rushhopper.proofs.acts.rushhopper_advance.Tie as tie
 
 returns : tie.Need-returns
 returns c =
-    let after-take-step : tie.After-take-step = search in
-    numbered (c .number-of .ensures) (after-take-step .take-step .ensures)
+    let after-advance : tie.After-advance = search in
+    numbered (c .number-of .ensures) (after-advance .advance .ensures)
 
 pub rushhopper-advance-spec : {M : Type 1} → statement M
 rushhopper-advance-spec =

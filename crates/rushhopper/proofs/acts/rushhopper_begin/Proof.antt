@@ -5,8 +5,8 @@ use Rattle.rushhopper.proofs.acts.rushhopper_begin.Tie as tie
 
 returns : tie.Need-returns
 returns c =
-    let after-take-step : tie.After-take-step = search in
-    numbered (c .number-of .ensures) (after-take-step .take-step .ensures)
+    let after-begin : tie.After-begin = search in
+    numbered (c .number-of .ensures) (after-begin .begin .ensures)
 
 pub rushhopper-begin-spec : {M : Type 1} → statement M
 rushhopper-begin-spec =

@@ -5,8 +5,8 @@ use Rattle.rushhopper.proofs.acts.rushhopper_hear.Tie as tie
 
 returns : tie.Need-returns
 returns c =
-    let after-take-step : tie.After-take-step = search in
-    numbered (c .number-of .ensures) (after-take-step .take-step .ensures)
+    let after-hear : tie.After-hear = search in
+    numbered (c .number-of .ensures) (after-hear .hear .ensures)
 
 pub rushhopper-hear-spec : {M : Type 1} → statement M
 rushhopper-hear-spec =

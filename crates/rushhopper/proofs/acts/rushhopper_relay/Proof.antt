@@ -5,8 +5,8 @@ use Rattle.rushhopper.proofs.acts.rushhopper_relay.Tie as tie
 
 returns : tie.Need-returns
 returns c =
-    let after-take-step : tie.After-take-step = search in
-    numbered (c .number-of .ensures) (after-take-step .take-step .ensures)
+    let after-relay : tie.After-relay = search in
+    numbered (c .number-of .ensures) (after-relay .relay .ensures)
 
 pub rushhopper-relay-spec : {M : Type 1} → statement M
 rushhopper-relay-spec =

@@ -5,8 +5,8 @@ use Rattle.rushhopper.proofs.acts.rushhopper_submit.Tie as tie
 
 returns : tie.Need-returns
 returns c =
-    let after-take-step : tie.After-take-step = search in
-    numbered (c .number-of .ensures) (after-take-step .take-step .ensures)
+    let after-submit : tie.After-submit = search in
+    numbered (c .number-of .ensures) (after-submit .submit .ensures)
 
 pub rushhopper-submit-spec : {M : Type 1} → statement M
 rushhopper-submit-spec =
