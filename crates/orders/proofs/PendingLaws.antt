@@ -4,7 +4,7 @@
 use mathlib.Core.Path.{_≡_, refl, sym, _∙_, ap, ap₂, subst, fun-ext}
 use mathlib.Core.Bool.{Bool, true, false, not, _&&_, _||_, true≢false, and-false as and-false-right}
 use mathlib.Core.List.{List}
-use mathlib.Core.Logic.{_⊎_, inl, inr, ⊎-elim}
+use mathlib.Core.Logic.{_⊎_, _≢_, inl, inr, ⊎-elim}
 use Prim.Native.Nat.{ℕ, zero, suc, _+_, _-_, _<_, _≤_}
 use native.Mathlib.Omega.{arith}
 use native.Mathlib.Decide.{ℕ-discrete}
@@ -18,7 +18,7 @@ use Rattle.model.specs.declared.Round.the-variants.{Idle}
 use Rattle.model.specs.Rack.{Replica}
 use Rattle.model.specs.Rules.{ahead, earlier, first-of, logged, pending, next-tag}
 use Rattle.model.proofs.Branches.{told, if-false}
-use Rattle.model.proofs.Cases.{and-true, and-both, or-true, or-false, if-ind}
+use Rattle.model.proofs.Cases.{and-true, and-both, or-true, or-false, or-none, if-ind}
 use Rattle.tables.specs.Layout.{has-bit, known-in, holders-base, holder-cell, log-cell}
 use Rattle.tables.specs.View.{held-from, holds, log-in}
 use Rattle.tables.specs.Addresses.{log-in-range, log-read}
@@ -191,14 +191,17 @@ log-there {N} {c} s acts from low =
     omega arith
 
 -- no entry is looked at yet, and one more
-pub logged-none : (base : ℕ) (os : List ℕ) (x : ℕ) → false ≡ logged-from base 0 os x
+pub logged-none : (base : ℕ) (os : List ℕ) (x : ℕ) → logged-from base 0 os x ≡ false
 unfolding logged-from
-logged-none base os x = sym (any-none _)
+logged-none base os x = any-none _
 
-pub logged-more : (base i : ℕ) (os : List ℕ) (x : ℕ) {r found : Bool} → found ≡ logged-from base i os x → r ≡ (eqb (getD os (base + i) 0) x || found)
-    → r ≡ logged-from base (i + 1) os x
+pub logged-past : (base i : ℕ) (os : List ℕ) (x : ℕ) → logged-from base i os x ≡ false → getD os (base + i) 0 ≢ x → logged-from base (i + 1) os x ≡ false
 unfolding logged-from
-logged-more base i os x was e = e ∙ ap (λ (b : Bool). eqb (getD os (base + i) 0) x || b) was ∙ sym (any-more i _)
+logged-past base i os x was ne = any-more i _ ∙ or-none _ _ (ne-eqb _ _ ne) was
+
+pub logged-here : (base i closed : ℕ) (os : List ℕ) (x : ℕ) → i < closed → getD os (base + i) 0 ≡ x → true ≡ logged-from base closed os x
+unfolding logged-from
+logged-here base i closed os x l e = sym (any-here closed _ i l (eq-eqb _ _ e))
 
 -- ---- a tag is held where it stands, or at another place that has it
 

@@ -30,13 +30,14 @@ fn is_logged(base: usize, closed: usize, x: u64, orders: &[u64]) -> bool
     requires { ⌜ base + closed ≤ length (now orders) ⌝ }
     ensures { λ r. ⌜ r ≡ logged-from base closed (now (orders .entry)) x ⌝ }
 {
-    let mut found = false;
     let mut i = 0;
     while i < closed {
-        found = or(orders[base + i] == x, found);
+        if orders[base + i] == x {
+            return true;
+        }
         i += 1;
     }
-    found
+    false
 }
 
 // Whether a known place makes its tag pending. Its own bit is enough: a tag that is held only at another place that has it
