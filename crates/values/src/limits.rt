@@ -15,13 +15,10 @@ pub fn numbers_limited(numbers: Numbers) -> bool
 {
     let n = numbers.n;
     let f = numbers.f;
-    if n < 1 {
-        return false;
-    }
     if MOST_REPLICAS < n {
         return false;
     }
-    // So that 2f + 1 does not wrap.
+    // So that 2f + 1 does not wrap; no replica at all are too few for any f.
     if n <= f {
         return false;
     }
