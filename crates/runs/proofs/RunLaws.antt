@@ -35,8 +35,8 @@ use Rattle.promises.specs.RunOn.{run-on-further}
 use Rattle.promises.specs.Still.{still-fine}
 use Rattle.refusals.specs.declared.Vetted.the-variants.{Refused as Refused′, Passed}
 use Rattle.refusals.specs.Vet.{first-asked}
-use Rattle.steps.specs.Admitted.{first-vetted, Passing}
-use Rattle.steps.proofs.GateLaws.{judge-behind}
+use Rattle.acts.specs.Admitted.{first-vetted, Passing}
+use Rattle.acts.proofs.GateLaws.{judge-behind}
 
 -- ---- the answer
 

@@ -13,7 +13,7 @@ ghost use Rattle.model.specs.declared.Effect.the-variants.{Refuse};
 ghost use Rattle.model.specs.Scripts.{play, goes-on, stopped as stopped-at, running, ended};
 ghost use Rattle.tables.specs.Calls.{tables, on-tables};
 ghost use Rattle.tables.specs.Lent.{moments};
-ghost use Rattle.steps.specs.Admitted.{Passing};
+ghost use Rattle.acts.specs.Admitted.{Passing};
 ghost use Rattle.runs.specs.Most.{most-steps};
 
 // An advance after which a run on goes on: accepted, and it closed no slot.

@@ -22,7 +22,7 @@ use Rattle.tables.specs.Layout.{mask-bits, record-end, record-at}
 use Rattle.tables.specs.Bounds.{bounds}
 use Rattle.tables.specs.Calls.{CrashOutcome, crash-outcome, crash-refusals, crashed}
 use Rattle.tables.specs.Write.{halted}
-use Rattle.steps.specs.Admitted.{crash-judged, crash-missing}
+use Rattle.steps.specs.Crashing.{crash-judged, crash-missing}
 
 -- what the answer of a crash comes to
 abbrev effect-of : Answer → Effect

@@ -1,7 +1,4 @@
 pub mod AlikeLaws
-pub mod GateLaws
+pub mod AdvanceLaws
 pub mod CrashLaws
-pub mod RuleLaws
-pub mod DoableLaws
-pub mod StepLaws
-pub mod ActLaws
+pub mod HaltLaws

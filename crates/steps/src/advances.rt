@@ -1,5 +1,5 @@
 // Advance: judged by the rule of the replica's round, and carried out. A run on is built of the same.
-use crate::effect::answer_of;
+use acts::effect::answer_of;
 use advance::advance_rule;
 use cells::records::load;
 use cells::records::round_in;
@@ -19,7 +19,7 @@ ghost use lib.ListN.{length};
 ghost use Rattle.model.specs.Scripts.{advance as advancing, ended};
 ghost use Rattle.tables.specs.Calls.{tables, judge, performed, stepped};
 ghost use Rattle.tables.specs.Lent.{moments};
-ghost use Rattle.steps.specs.Admitted.{first-vetted, Passing};
+ghost use Rattle.acts.specs.Admitted.{first-vetted, Passing};
 
 // The first refusals; they are not asked again where it is known that none is met.
 fn admit(

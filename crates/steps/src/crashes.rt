@@ -1,6 +1,6 @@
 // A crash on the memories: it is lent the record of the words. The call of the library is `crash`; it has no `requires`.
-use crate::effect::answer_of;
-use crate::effect::is_accepted;
+use acts::effect::answer_of;
+use acts::effect::is_accepted;
 use cells::records::load;
 use crash::crash_core;
 use effects::stand::halt;
@@ -22,7 +22,7 @@ ghost use Rattle.model.specs.declared.Act.the-variants.{Crash};
 ghost use Rattle.model.specs.Scripts.{ended};
 ghost use Rattle.tables.specs.Layout.{mask-bits, record-end};
 ghost use Rattle.tables.specs.Calls.{tables, stepped};
-ghost use Rattle.steps.specs.Admitted.{crash-judged, crash-missing};
+ghost use Rattle.steps.specs.Crashing.{crash-judged, crash-missing};
 
 // Whether the words have the record of `who`.
 fn record_there(who: usize, words: &[u16]) -> bool

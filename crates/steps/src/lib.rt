@@ -1,9 +1,6 @@
-// The steps: each is judged, and what it comes to is stored. Any step as a value: `take_step`. The calls of the library have no
-// `requires`.
-pub mod acts;
+// Advance, a crash on the memories, and any step as a value: `take_step`. The calls of the library have no `requires`.
 pub mod advances;
 pub mod crashes;
-mod effect;
 
 use acts::begin;
 use acts::hear;

@@ -1,4 +1,4 @@
-use Rattle.steps.proofs.StepLaws.{taken}
+use Rattle.acts.proofs.StepLaws.{taken}
 use borrow.Author.Needs.{needs}
 use Rattle.steps.proofs.take_step.Statement.{statement}
 use Rattle.steps.proofs.take_step.Tie as tie

@@ -1,6 +1,6 @@
 use mathlib.Core.Path.{sym, _∙_, ap}
 use Rattle.tables.specs.declared.Lengths.{Lengths}
-use Rattle.steps.proofs.GateLaws.{spoiled-first, vetted-next}
+use Rattle.acts.proofs.GateLaws.{spoiled-first, vetted-next}
 use borrow.Author.Needs.{needs}
 use Rattle.steps.proofs.advances.admit.Statement.{statement}
 use Rattle.steps.proofs.advances.admit.Tie as tie

@@ -1,5 +1,5 @@
 use Rattle.model.proofs.Cases.{clash}
-use Rattle.steps.proofs.StepLaws.{takes}
+use Rattle.acts.proofs.StepLaws.{takes}
 use borrow.Author.Needs.{needs}
 use Rattle.steps.proofs.advances.advance.Statement.{statement}
 use Rattle.steps.proofs.advances.advance.Tie as tie

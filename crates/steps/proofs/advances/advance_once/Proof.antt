@@ -1,7 +1,7 @@
 use mathlib.Core.Path.{_∙_, ap}
 use Rattle.effects.specs.Doable.{by-advance}
-use Rattle.steps.proofs.DoableLaws.{advance-by}
-use Rattle.steps.proofs.StepLaws.{doable, performs}
+use Rattle.steps.proofs.AdvanceLaws.{advance-by}
+use Rattle.acts.proofs.StepLaws.{doable, performs}
 use borrow.Author.Needs.{needs}
 use Rattle.steps.proofs.advances.advance_once.Statement.{statement}
 use Rattle.steps.proofs.advances.advance_once.Tie as tie

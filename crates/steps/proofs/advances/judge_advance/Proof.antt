@@ -2,9 +2,10 @@ use mathlib.Core.Path.{refl}
 use lib.ListN.{length}
 use Rattle.model.specs.declared.Act.the-variants.{Advance}
 use Rattle.tables.specs.Calls.{tables}
-use Rattle.steps.specs.Admitted.{Admitted}
-use Rattle.steps.proofs.GateLaws.{judge-stops, judge-rules, admitted}
-use Rattle.steps.proofs.RuleLaws.{record-asks, advance-asks, advances}
+use Rattle.acts.specs.Admitted.{Admitted}
+use Rattle.acts.proofs.GateLaws.{judge-stops, judge-rules, admitted}
+use Rattle.acts.proofs.RuleLaws.{record-asks}
+use Rattle.steps.proofs.AdvanceLaws.{advance-asks, advances}
 use borrow.Author.Needs.{needs}
 use Rattle.steps.proofs.advances.judge_advance.Statement.{statement}
 use Rattle.steps.proofs.advances.judge_advance.Tie as tie
@@ -42,7 +43,7 @@ returns-2 c =
     let after-load : tie.After-load = search in
     let after-round-in : tie.After-round-in = search in
     judge-rules _ _ _ _ _ refl (after-admit .admit .ensures) (after-enum-told .enum-told .given .1)
-    (advances _ _ _ _ (after-load .load .ensures) (after-round-in .round-in .ensures) (passed after-enum-told) (c .advance-rule .ensures))
+    (advances (passed after-enum-told) (after-load .load .ensures) (after-round-in .round-in .ensures) _ (c .advance-rule .ensures))
 
 pub judge-advance-spec : {M : Type 1} → statement M
 judge-advance-spec =

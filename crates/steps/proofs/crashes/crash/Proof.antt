@@ -1,5 +1,5 @@
 use borrow.Author.Tests.{not-true, not-false}
-use Rattle.steps.proofs.ActLaws.{crash-stays, halt-asked, crash-made}
+use Rattle.steps.proofs.HaltLaws.{crash-stays, halt-asked, crash-made}
 use borrow.Author.Needs.{needs}
 use Rattle.steps.proofs.crashes.crash.Statement.{statement}
 use Rattle.steps.proofs.crashes.crash.Tie as tie

@@ -1,0 +1,5 @@
+pub mod GateLaws
+pub mod RuleLaws
+pub mod DoableLaws
+pub mod StepLaws
+pub mod ActLaws
