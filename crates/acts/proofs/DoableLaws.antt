@@ -11,8 +11,7 @@ use lib.Seq.{length-take-le}
 use borrow.Author.Tests.{ltb-false, lt-ltb, not-false}
 use Rattle.model.specs.declared.Numbers.{Numbers}
 use Rattle.model.specs.declared.ReplicaId.{ReplicaId}
-use Rattle.model.specs.declared.Round.{Round}
-use Rattle.model.specs.declared.Round.the-variants.{Idle, Exchange, State, Vote, Find}
+use Rattle.model.specs.declared.Round.the-variants.{Exchange, State, Vote, Find}
 use Rattle.model.specs.declared.Sort.{Sort}
 use Rattle.model.specs.declared.Sort.the-variants.{Proposals, States, Votes}
 use Rattle.model.specs.declared.Word.{Word}
@@ -24,7 +23,7 @@ use Rattle.model.specs.declared.Act.the-variants.{Submit, Relay, Begin, Hear, A
 use Rattle.model.specs.declared.Step.{Step}
 use Rattle.model.specs.Tests.{if, listed}
 use Rattle.model.specs.Limits.{limited}
-use Rattle.model.specs.Rack.{same-round, Replica}
+use Rattle.model.specs.Rack.{Replica}
 use Rattle.model.specs.Rules.{majority-tag, vote-of, next-state, phase-in}
 use Rattle.model.proofs.Cases.{or-false, if-ind, Unmet, unless-ind, unmet-both}
 use Rattle.safety.specs.Comes.{ByRule, by-submit, by-relay, by-begin, by-hear, by-exchange, by-state}
@@ -34,8 +33,8 @@ use Rattle.tables.specs.Addresses.{state-in, as-vote}
 use Rattle.tables.specs.Bounds.{bounds}
 use Rattle.tables.specs.View.{view}
 use Rattle.tables.specs.Write.{word-number}
-use Rattle.tables.specs.Checks.{misplaced, spoiled, record-refusals}
-use Rattle.tables.specs.Sound.{Sound, sound, record-there, stands, own-view, in-slot, in-state}
+use Rattle.tables.specs.Checks.{spoiled, record-refusals}
+use Rattle.tables.specs.Sound.{Sound, sound, record-there, own-view, in-state, seen-stands, seen-low}
 use Rattle.tables.specs.Calls.{lent-refusals, judge}
 use Rattle.messages.specs.Reach.{Fitting}
 use Rattle.known.specs.Room.{Storable}
@@ -58,15 +57,6 @@ module _ (N : Numbers) (t : Tables) where
     pub ready : Ready N c t
     ready = let l = fine .long in
         record { bounds = fine .within; who = here; known = fine .known; words = l .words; orders = l .orders; ballots = l .ballots }
-
-    -- the replica is in a round, as its record says
-    in-round : (a : Round) → view N t .at c .round ≡ a → misplaced N a (record-at (t .words) c .slot) (record-at (t .words) c .phase) ≡ false
-    in-round a q = ap (λ (b : Round). misplaced N b (record-at (t .words) c .slot) (record-at (t .words) c .phase))
-        (sym (ap (λ (k : Replica). k .round) (sym (own-view N t here)) ∙ q)) ∙ stands N fine here
-
-    -- then its slot is one of the run
-    low : (a : Round) → same-round a Idle ≡ false → view N t .at c .round ≡ a → record-at (t .words) c .slot < slots
-    low a busy q = in-slot N _ _ a busy (in-round a q)
 
     -- what a send stores has its places
     sends : (so : Sort) (p : ℕ) (w : Word) → record-at (t .words) c .slot < slots → phase-in N so p ≡ true → Fitting so w → Doable N c (Send so p w) t
@@ -93,18 +83,18 @@ module _ (N : Numbers) (t : Tables) where
       sends fine c here Proposals 0 Unsure (subst (λ (k : Replica). k .closed < slots) (own-view N t here) open-slot) phase-zero tt
   by-rule fine {c} here (by-hear so hd hs hp sent free) = (ready fine c here, record { sender = hd; slot = hs; phase = hp })
   by-rule fine {c} here (by-exchange was enough) = let b = not (eqb (majority-tag N (view N t .at c)) 0) in
-      sends fine c here States 1 (Say b) (low fine c here Exchange refl was) (state-in N 1 (omega arith) (fine .within .phases-some)) (say-fits b)
+      sends fine c here States 1 (Say b) (seen-low N fine here Exchange refl was) (state-in N 1 (omega arith) (fine .within .phases-some)) (say-fits b)
   by-rule fine {c} here (by-state was enough) = let k = view N t .at c in
-      sends fine c here Votes (k .phase) (vote-of N k) (low fine c here State refl was)
+      sends fine c here Votes (k .phase) (vote-of N k) (seen-low N fine here State refl was)
       (subst (λ (k : Replica). phase-in N Votes (k .phase) ≡ true) (sym (own-view N t here))
-      (as-vote N _ (in-state N _ _ (in-round fine c here State was)))) (vote-fits N k)
-  by-rule fine {c} here (by-outcome-0 v o) = (ready fine c here, low fine c here Vote refl (v .in-round))
-  by-rule fine {c} here (by-outcome-1 v o some) = (ready fine c here, low fine c here Vote refl (v .in-round))
+      (as-vote N _ (in-state N _ _ (seen-stands N fine here State was)))) (vote-fits N k)
+  by-rule fine {c} here (by-outcome-0 v o) = (ready fine c here, seen-low N fine here Vote refl (v .in-round))
+  by-rule fine {c} here (by-outcome-1 v o some) = (ready fine c here, seen-low N fine here Vote refl (v .in-round))
   by-rule fine {c} here (by-seek v o none) = ready fine c here
   by-rule fine {c} here (by-next-phase flip v o more) = let k = view N t .at c in let b = next-state N flip k in
-      sends fine c here States (suc (k .phase)) (Say b) (low fine c here Vote refl (v .in-round)) (state-in N (suc (k .phase)) (omega arith) (omega arith))
+      sends fine c here States (suc (k .phase)) (Say b) (seen-low N fine here Vote refl (v .in-round)) (state-in N (suc (k .phase)) (omega arith) (omega arith))
       (say-fits b)
-  by-rule fine {c} here (by-find was some) = (ready fine c here, low fine c here Find refl was)
+  by-rule fine {c} here (by-find was some) = (ready fine c here, seen-low N fine here Find refl was)
   by-rule fine {c} here by-crash = record { few = let b = fine .within .few in omega arith; there = record-there N fine here }
 
   -- a crash whose refusals are not met has its record

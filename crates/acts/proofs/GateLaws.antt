@@ -59,6 +59,11 @@ passed-unmet (g ∷ gs) e = go (g .met) refl e (passed-unmet gs)
     go true q e below = absurd (never cc)
     go false q e below = (q, below e)
 
+-- ---- what vetting asks: the measured length of the words
+
+pub words-measured : {l m : Lengths} → l ≡ m → l .words ≡ m .words
+words-measured e = ap (λ (l : Lengths). l .words) e
+
 -- ---- `judge` behind what is asked first
 
 module _ (N : Numbers) (strip : List ℕ) (t : Tables) (c : ReplicaId) where
@@ -122,6 +127,20 @@ module _ (N : Numbers) (strip : List ℕ) (t : Tables) (c : ReplicaId) where
     unfolding first-vetted vetted unless if
     vetted-next is h measured q = q ∙ (λ i. vetted N (c .0) d (measured i) (length strip) (t .words)) ∙ rw (sym is ∙ h)
 
+    pub admitted : {v : Vetted} → v ≡ first-vetted N (c .0) d (length strip) t → v ≡ Passed → Admitted N (c .0) d (length strip) t
+    unfolding first-vetted Unmet
+    admitted asked e =
+        let (spoiled, (short, (few, (nobody, (dark, _))))) = passed-unmet (first-asked N (c .0) d (lengths t) (length strip) (t .words))
+        (sym asked ∙ e) in
+        let (there, named) = or-false (leb n (c .0)) _ nobody in
+        record {
+          fine = sound N t (spoiled, (short, tt));
+          coins = ltb-false _ _ few;
+          who = leb-false _ _ there;
+          named = leb-false _ _ named;
+          running = eqb-true _ _ (not-false _ dark);
+        }
+
   module _ (a : Act) (alive : is-crash a ≡ false) {v : Vetted} (asked : v ≡ first-vetted N (c .0) (other (c .0) a) (length strip) t) where
     judged : behind (ruled a here) v ≡ judge N strip (record { who = c; act = a }) t
     unfolding first-vetted
@@ -132,20 +151,6 @@ module _ (N : Numbers) (strip : List ℕ) (t : Tables) (c : ReplicaId) where
 
     pub judge-rules : {r : Effect} → v ≡ Passed → r ≡ ruled a here → r ≡ judge N strip (record { who = c; act = a }) t
     judge-rules e q = q ∙ ap (behind (ruled a here)) (sym e) ∙ judged
-
-    pub admitted : v ≡ Passed → Admitted N (c .0) (other (c .0) a) (length strip) t
-    unfolding first-vetted Unmet
-    admitted e =
-        let (spoiled, (short, (few, (nobody, (dark, _))))) = passed-unmet (first-asked N (c .0) (other (c .0) a) (lengths t) (length strip) (t .words))
-        (sym asked ∙ e) in
-        let (there, named) = or-false (leb n (c .0)) _ nobody in
-        record {
-          fine = sound N t (spoiled, (short, tt));
-          coins = ltb-false _ _ few;
-          who = leb-false _ _ there;
-          named = leb-false _ _ named;
-          running = eqb-true _ _ (not-false _ dark);
-        }
 
   -- the same of what the code has asked one after the other
   pub stops-spoiled : (a : Act) → is-crash a ≡ false → {b : Bool} → b ≡ run-spoiled N (t .words) → b ≡ true
@@ -160,5 +165,6 @@ module _ (N : Numbers) (strip : List ℕ) (t : Tables) (c : ReplicaId) where
     pub rules-vetted : {r : Effect} → v ≡ Passed → r ≡ ruled a here → r ≡ judge N strip (record { who = c; act = a }) t
     rules-vetted e = judge-rules a alive (vetted-next (other (c .0) a) is h measured q) e
 
-    pub admits-vetted : v ≡ Passed → Admitted N (c .0) (other (c .0) a) (length strip) t
-    admits-vetted e = admitted a alive (vetted-next (other (c .0) a) is h measured q) e
+  pub admits-vetted : (d : ℕ) {b : Bool} {v : Vetted} {l : Lengths} → b ≡ run-spoiled N (t .words) → b ≡ false → l ≡ lengths t
+      → v ≡ vetted N (c .0) d l (length strip) (t .words) → v ≡ Passed → Admitted N (c .0) d (length strip) t
+  admits-vetted d is h measured q e = admitted d (vetted-next d is h measured q) e

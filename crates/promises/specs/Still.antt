@@ -29,7 +29,7 @@ use Rattle.tables.specs.Checks.{lengths, misplaced, spoiled, any-spoiled}
 use Rattle.tables.specs.Calls.{lent-refusals, judge, performed, stepped}
 use Rattle.tables.specs.Bounds.{Long}
 use Rattle.tables.specs.Addresses.{state-in}
-use Rattle.tables.specs.Sound.{moved-fine, Sound, lent-sound, record-there, own-unspoiled, stands, own-view, in-slot}
+use Rattle.tables.specs.Sound.{moved-fine, Sound, lent-sound, record-there, own-unspoiled, stands, own-view, seen-low}
 use Rattle.promises.specs.Order.{step-refusals}
 use Rattle.promises.specs.Kept.{step-lengths-kept}
 
@@ -128,7 +128,7 @@ module _ (N : Numbers) (t : Tables) (fine : Sound N t) where
 
     -- and then its slot is one of the run
     low : (a : Round) → same-round a Idle ≡ false → seen .round ≡ a → k .slot < slots
-    low a busy q = in-slot N _ _ a busy (placed a q)
+    low a busy q = seen-low N fine here a busy q
 
     -- it sends a message, and waits in the round of that
     sends : (so : Sort) (p : ℕ) → misplaced N (round-of so) (k .slot) p ≡ false → Stays (words-sent N c so p ws)

@@ -9,7 +9,7 @@ use borrow.Author.Tests.{ltb-false, leb-false, le-leb, le-ltb, lt-ltb, not-false
 use Rattle.tables.specs.Types.{Numbers, Round, Idle, Exchange, State, Vote, Find, States, Votes, Step, Record}
 use Rattle.model.specs.Tests.{if}
 use Rattle.model.specs.Limits.{limited}
-use Rattle.model.specs.Rack.{round-number, round-in, same-round}
+use Rattle.model.specs.Rack.{round-number, round-in, same-round, Replica}
 use Rattle.model.specs.Rules.{is-crash, phase-in}
 use Rattle.model.proofs.Branches.{if-true}
 use Rattle.model.proofs.Cases.{clash, or-false, Unmet, round-back}
@@ -112,3 +112,13 @@ module _ (N : Numbers) where
   pub own-view : (t : Tables) {c : ℕ} → c < n → view N t .at c ≡ replica-at N t c
   unfolding only
   own-view t {c} there = if-true _ _ (lt-ltb c n there)
+
+  -- the round that the view has it in, with its slot and phase
+  module _ {t : Tables} (fine : Sound t) {c : ℕ} (there : c < n) where
+    pub seen-stands : (a : Round) → view N t .at c .round ≡ a → let k = record-at (t .words) c in misplaced N a (k .slot) (k .phase) ≡ false
+    seen-stands a q = let k = record-at (t .words) c in
+        subst (λ (b : Round). misplaced N b (k .slot) (k .phase) ≡ false) (ap (λ (x : Replica). x .round) (sym (own-view t there)) ∙ q) (stands fine there)
+
+    -- in a round its slot is one of the run
+    pub seen-low : (a : Round) → same-round a Idle ≡ false → view N t .at c .round ≡ a → record-at (t .words) c .slot < N .slots
+    seen-low a busy q = in-slot N _ _ a busy (seen-stands a q)

@@ -1,6 +1,5 @@
 use mathlib.Core.Path.{refl}
 use lib.ListN.{length}
-use Rattle.model.specs.declared.Act.the-variants.{Advance}
 use Rattle.tables.specs.Calls.{tables}
 use Rattle.acts.specs.Admitted.{Admitted}
 use Rattle.acts.proofs.GateLaws.{judge-stops, judge-rules, admitted}
@@ -19,7 +18,7 @@ passed : (k : tie.After-enum-told) → let a = called k .args in
 passed k =
     let after-admit : tie.After-admit = search in
     let args = called k .args in
-    admitted _ (args .strip .now) (tables (args .words .now) (args .orders .now) (args .ballots .now)) (args .who) Advance refl
+    admitted _ (args .strip .now) (tables (args .words .now) (args .orders .now) (args .ballots .now)) (args .who) _
     (after-admit .admit .ensures) (k .enum-told .given .1)
 
 load-requires : tie.Need-load-requires
