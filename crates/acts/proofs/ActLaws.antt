@@ -78,15 +78,16 @@ abbrev some-sort : Option Sort → Bool
 some-sort none = false
 some-sort (just so) = true
 
-sort-range : (x : ℕ) {so : Sort} → sort-of x ≡ just so → (1 ≤ x) × (x ≤ 3)
+sort-range : (x : ℕ) {so : Sort} → sort-of x ≡ just so → (1 ≤ x) × (x ≤ 4)
 unfolding if
-sort-range x {so} e = go (ℕ-discrete x 1) (ℕ-discrete x 2) (ℕ-discrete x 3)
+sort-range x {so} e = go (ℕ-discrete x 1) (ℕ-discrete x 2) (ℕ-discrete x 3) (ℕ-discrete x 4)
   where
-    go : Dec (x ≡ 1) → Dec (x ≡ 2) → Dec (x ≡ 3) → (1 ≤ x) × (x ≤ 3)
-    go (yes a) b d = (omega arith, omega arith)
-    go (no _) (yes b) d = (omega arith, omega arith)
-    go (no _) (no _) (yes d) = (omega arith, omega arith)
-    go (no a) (no b) (no d) = clash (sym (rw (ne-eqb x 1 a, ne-eqb x 2 b, ne-eqb x 3 d)) ∙ ap some-sort e)
+    go : Dec (x ≡ 1) → Dec (x ≡ 2) → Dec (x ≡ 3) → Dec (x ≡ 4) → (1 ≤ x) × (x ≤ 4)
+    go (yes a) b c d = (omega arith, omega arith)
+    go (no _) (yes b) c d = (omega arith, omega arith)
+    go (no _) (no _) (yes c) d = (omega arith, omega arith)
+    go (no _) (no _) (no _) (yes d) = (omega arith, omega arith)
+    go (no a) (no b) (no c) (no d) = clash (sym (rw (ne-eqb x 1 a, ne-eqb x 2 b, ne-eqb x 3 c, ne-eqb x 4 d)) ∙ ap some-sort e)
 
 abbrev sort-in : Sort → Option Sort → Sort
 sort-in other none = other
@@ -144,7 +145,7 @@ module _ (N : Numbers) (strip : List ℕ) (c : ReplicaId) (ws os bs : List ℕ) 
     message : HeardAs m e
     message = hear-receives N strip c (view N T) m (sym asked ∙ h) (comes N strip (step (Hear m)) T judged asked h)
 
-    pub sort-asked : (1 ≤ m .sort) × (m .sort ≤ 3)
+    pub sort-asked : (1 ≤ m .sort) × (m .sort ≤ 4)
     sort-asked = sort-range (m .sort) (message .named)
 
     module _ {so : Sort} (named : just so ≡ sort-of (m .sort)) where

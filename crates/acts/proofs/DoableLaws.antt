@@ -26,7 +26,7 @@ use Rattle.model.specs.Limits.{limited}
 use Rattle.model.specs.Rack.{Replica}
 use Rattle.model.specs.Rules.{majority-tag, vote-of, next-state, phase-in}
 use Rattle.model.proofs.Cases.{or-false, if-ind, Unmet, unless-ind, unmet-both}
-use Rattle.safety.specs.Comes.{ByRule, by-submit, by-relay, by-begin, by-hear, by-exchange, by-state}
+use Rattle.safety.specs.Comes.{ByRule, by-submit, by-relay, by-begin, by-hear, by-notice, by-exchange, by-state}
 use Rattle.safety.specs.Comes.{by-outcome-0, by-outcome-1, by-seek, by-next-phase, by-find, by-crash, past}
 use Rattle.tables.specs.Layout.{Tables, known-in, record-end, record-at}
 use Rattle.tables.specs.Addresses.{state-in, as-vote}
@@ -34,7 +34,7 @@ use Rattle.tables.specs.Bounds.{bounds}
 use Rattle.tables.specs.View.{view}
 use Rattle.tables.specs.Write.{word-number}
 use Rattle.tables.specs.Checks.{spoiled, record-refusals}
-use Rattle.tables.specs.Sound.{Sound, sound, record-there, own-view, in-state, seen-stands, seen-low}
+use Rattle.tables.specs.Sound.{Sound, sound, record-there, own-view, in-state, seen-stands, seen-low, noticed-low}
 use Rattle.tables.specs.Calls.{lent-refusals, judge}
 use Rattle.messages.specs.Reach.{Fitting}
 use Rattle.known.specs.Room.{Storable}
@@ -82,6 +82,7 @@ module _ (N : Numbers) (t : Tables) where
   by-rule fine {c} here (by-begin idle open-slot some) =
       sends fine c here Proposals 0 Unsure (subst (λ (k : Replica). k .closed < slots) (own-view N t here) open-slot) phase-zero tt
   by-rule fine {c} here (by-hear so hd hs hp sent free) = (ready fine c here, record { sender = hd; slot = hs; phase = hp })
+  by-rule fine {c} here (by-notice heard) = (ready fine c here, noticed-low N t here heard)
   by-rule fine {c} here (by-exchange was enough) = let b = not (eqb (majority-tag N (view N t .at c)) 0) in
       sends fine c here States 1 (Say b) (seen-low N fine here Exchange refl was) (state-in N 1 (omega arith) (fine .within .phases-some)) (say-fits b)
   by-rule fine {c} here (by-state was enough) = let k = view N t .at c in

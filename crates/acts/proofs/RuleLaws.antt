@@ -72,15 +72,15 @@ module _ (N : Numbers) (strip : List ℕ) (c : ℕ) (t : Tables) where
 
   -- a hear looks at the inbox alone
   pub hears : {r : Effect} (m : Message)
-      → r ≡ settle (hear-rule N (guarded N (sent-words N (t .orders) (t .ballots)))
-      (reading 0 0 (guarded N (inbox-in N (t .orders) (t .ballots) (t .words) c))) m (sort-of (m .sort))) → Rules r (Hear m)
+      → r ≡ settle (hear-rule N (guarded N (sent-words N (t .words) (t .orders) (t .ballots)))
+      (reading 0 0 (guarded N (inbox-in N (t .words) (t .orders) (t .ballots) c))) m (sort-of (m .sort))) → Rules r (Hear m)
   unfolding own-rule hear-rule
   hears m q = q ∙ ap settle (go (sort-of (m .sort)))
     where
       sent : Messages
-      sent = guarded N (sent-words N (t .orders) (t .ballots))
+      sent = guarded N (sent-words N (t .words) (t .orders) (t .ballots))
 
-      go : (so : Option Sort) → hear-rule N sent (reading 0 0 (guarded N (inbox-in N (t .orders) (t .ballots) (t .words) c))) m so
+      go : (so : Option Sort) → hear-rule N sent (reading 0 0 (guarded N (inbox-in N (t .words) (t .orders) (t .ballots) c))) m so
           ≡ hear-rule N sent (replica-at N t c) m so
       go none = refl
       go (just so) = refl

@@ -1,4 +1,6 @@
 // What an advance comes to, round by round. Inner code: no calls of the library.
+pub mod notices;
+
 use coin::coin_of;
 use model::Effect;
 use model::Numbers;
@@ -258,7 +260,7 @@ fn find_rule(
     Effect::Close(tag)
 }
 
-pub fn advance_rule(
+fn advance_rule(
     numbers: Numbers,
     who: usize,
     round: Round,

@@ -1,23 +1,25 @@
 -- A record that was moved, or halted.
-use Prim.Native.Nat.{ℕ, _+_, _^_, _≤_, _<_}
+use Prim.Native.Nat.{ℕ, suc, _+_, _^_, _≤_, _<_}
 use native.Mathlib.Numerals.{add-one}
 use native.Mathlib.Omega.{arith}
 use mathlib.Core.List.{List}
 use mathlib.Core.Logic.{inr}
-use mathlib.Core.Path.{_≡_, sym, ap, _∙_, subst}
-use lib.ListN.{length, set}
+use mathlib.Core.Path.{_≡_, refl, sym, ap, _∙_, subst}
+use lib.ListN.{set}
 use Rattle.model.specs.declared.Numbers.{Numbers}
 use Rattle.model.specs.declared.Round.{Round}
 use Rattle.model.specs.declared.Round.the-variants.{Idle, Find}
 use Rattle.model.specs.declared.Sort.{Sort}
+use Rattle.model.specs.declared.Sort.the-variants.{Notices}
 use Rattle.model.specs.declared.Word.{Word}
 use Rattle.model.specs.declared.Effect.the-variants.{Send, Close}
 use Rattle.tables.specs.declared.Record.{Record}
 use Rattle.model.specs.Limits.{most-phases}
 use Rattle.model.specs.Rack.{round-number, round-of}
-use Rattle.tables.specs.Layout.{record-end, record-at, record-stored, proposal-cell, ballot-cell, heard-cell, log-cell, orders-need}
+use Rattle.model.specs.Rules.{phase-in}
+use Rattle.tables.specs.Layout.{record-end, record-at, record-stored, proposal-cell, ballot-cell, heard-cell, log-cell}
 use Rattle.tables.specs.Bounds.{Bounds}
-use Rattle.tables.specs.Addresses.{Within, phase-low, log-in-range}
+use Rattle.tables.specs.Addresses.{Within, phase-low}
 use Rattle.tables.specs.Sections.{elsewhere, record-agrees}
 use Rattle.tables.specs.Write.{word-number, proposal-stored, ballot-stored, moved, halted, entered, words-sent, write}
 use Rattle.tables.specs.Calls.{tables}
@@ -50,22 +52,32 @@ module _ (ws : List ℕ) (c : ℕ) {k : Record} (loaded : k ≡ record-at ws c) 
     pub within-is : {so : Sort} {p : ℕ} → Within N so (record-at ws c .slot) p c → Within N so (k .slot) p c
     within-is {so} {p} w = subst (λ (k : Record). Within N so (k .slot) p c) (sym loaded) w
 
+    -- its notice is a message of the run
+    pub notice-within : c < N .n → record-at ws c .slot < N .slots → Within N Notices (k .slot) 0 c
+    unfolding phase-in
+    notice-within hc h = record { sender = hc; slot = slot-is h; phase = refl }
+
+    -- the mark of its message stands behind the records, so the record that is moved is still the one that was loaded
+    still-loaded : c < N .n → (so : Sort) (s p : ℕ) → k ≡ record-at (set ws (heard-cell N so s p c) (2 ^ c)) c
+    still-loaded hc so s p = loaded ∙ sym (record-kept ws c (heard-cell N so s p c) (2 ^ c) (omega arith))
+
     -- it closes its slot
-    pub closed-by : (x : ℕ) (os : List ℕ) {ws′ os′ : List ℕ} → os′ ≡ set os (log-cell N c (k .slot)) x
-        → ws′ ≡ record-stored ws c (moved Idle (k .slot + 1) (k .phase) k) → (bs : List ℕ) → tables ws′ os′ bs ≡ write N c (Close x) (tables ws os bs)
+    pub closed-by : (x : ℕ) (os : List ℕ) {ws′ os′ marked : List ℕ} → c < N .n → os′ ≡ set os (log-cell N c (k .slot)) x
+        → marked ≡ set ws (heard-cell N Notices (k .slot) 0 c) (2 ^ c) → ws′ ≡ record-stored marked c (moved Idle (k .slot + 1) (k .phase) k)
+        → (bs : List ℕ) → tables ws′ os′ bs ≡ write N c (Close x) (tables ws os bs)
     unfolding write
-    closed-by x os l q bs =
-        let left = q ∙ (λ i. record-stored ws c (moved Idle (add-one (loaded i .slot) i) (loaded i .phase) (loaded i))) in
+    closed-by x os hc l m q bs =
+        let same = still-loaded hc Notices (record-at ws c .slot) 0 in
+        let left = q ∙ (λ i. record-stored (m i) c (moved Idle (add-one (k .slot) i) (k .phase) k)) ∙ (λ i. let j = loaded i in
+        record-stored (set ws (heard-cell N Notices (j .slot) 0 c) (2 ^ c)) c (moved Idle (suc (j .slot)) (j .phase) (same i))) in
         let logged = l ∙ (λ i. set os (log-cell N c (loaded i .slot)) x) in
         λ i. tables (left i) (logged i) bs
 
     module _ (so : Sort) (p : ℕ) where
-      -- the mark of its message stands behind the records, so the record that is moved is still the one that was loaded
       words-left : {ws′ marked : List ℕ} {a : Round} → c < N .n → marked ≡ set ws (heard-cell N so (k .slot) p c) (2 ^ c) → a ≡ round-of so
           → ws′ ≡ record-stored marked c (moved a (k .slot) p k) → ws′ ≡ words-sent N c so p ws
       words-left hc m e q =
-          let kept = record-kept ws c (heard-cell N so (record-at ws c .slot) p c) (2 ^ c) (omega arith) in
-          let same = loaded ∙ sym kept in
+          let same = still-loaded hc so (record-at ws c .slot) p in
           q ∙ (λ i. record-stored (m i) c (moved (e i) (k .slot) p k))
           ∙ (λ i. record-stored (set ws (heard-cell N so (loaded i .slot) p c) (2 ^ c)) c (moved (round-of so) (loaded i .slot) p (same i)))
 
@@ -81,10 +93,6 @@ module _ (ws : List ℕ) (c : ℕ) {k : Record} (loaded : k ≡ record-at ws c) 
           let proposed = m .1 ∙ (λ i. proposal-stored so (proposal-cell N (loaded i .slot) c) (word-number w) os) in
           let voted = m .2 ∙ (λ i. ballot-stored so (ballot-cell N so (loaded i .slot) p c) (word-number w) bs) in
           λ i. tables (left i) (proposed i) (voted i)
-
--- the cell of an entry, as it was computed, is inside its memory
-pub entry-inside : (N : Numbers) {c s i : ℕ} (os : List ℕ) → c < N .n → s < N .slots → orders-need N ≤ length os → i ≡ log-cell N c s → i < length os
-entry-inside N {c} {s} os hc hs long e = omega (arith, log-in-range N c s hc hs)
 
 -- a phase of the run fits its word
 pub phase-fits : (N : Numbers) → Bounds N → {so : Sort} {s p d : ℕ} → Within N so s p d → p ≤ most-phases

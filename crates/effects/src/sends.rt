@@ -3,6 +3,7 @@ use crate::stand::enter;
 use crate::stand::log_entry;
 use cells::records::load;
 use messages::sending::send_message;
+use messages::sending::store_mark;
 use model::Numbers;
 use model::Round;
 use model::Sort;
@@ -29,6 +30,7 @@ fn round_of(sort: Sort) -> Round
         Sort::Proposals => Round::Exchange,
         Sort::States => Round::State,
         Sort::Votes => Round::Vote,
+        Sort::Notices => Round::Idle,
     }
 }
 
@@ -64,7 +66,7 @@ pub fn send(
     enter(who, k, round_of(sort), k.slot, phase as u16, words);
 }
 
-// Whatever stands in the ballots.
+// The entry, and its notice's mark; whatever stands in the ballots.
 pub fn close(numbers: Numbers, who: usize, x: u64, words: &mut [u16], orders: &mut [u64])
     requires { ⌜ (Acting numbers who (now words) (now orders)) × (record-at (now words) who .slot < numbers .slots) ⌝ }
     ensures { λ _. ⌜ ((bs : List ℕ) → tables (now (words .exit)) (now (orders .exit)) bs
@@ -73,6 +75,7 @@ pub fn close(numbers: Numbers, who: usize, x: u64, words: &mut [u16], orders: &m
     let k = load(words, who);
     let slot = k.slot as usize;
     log_entry(numbers, who, slot, x, orders);
+    store_mark(numbers, who, Sort::Notices, slot, 0, words);
     enter(who, k, Round::Idle, k.slot + 1, k.phase, words);
 }
 

@@ -7,13 +7,12 @@ use mathlib.Core.Path.{_≡_}
 use lib.Arith.{digits-lt}
 use Rattle.model.specs.declared.Numbers.{Numbers}
 use Rattle.model.specs.declared.Sort.{Sort}
-use Rattle.model.specs.declared.Sort.the-variants.{States}
 use Rattle.model.specs.Limits.{most-phases}
 use Rattle.model.specs.Rules.{phase-in}
 use Rattle.tables.specs.Layout.{row, slot-row, message-rows, ballot-rows, heard-base, heard-cell}
 use Rattle.tables.specs.Layout.{proposals-base, logs-base, ballot-cell}
 use Rattle.tables.specs.Bounds.{Bounds, ballot-rows-few, ballots-few, message-rows-few, words-few, orders-few}
-use Rattle.tables.specs.Addresses.{Within, phase-bounds, phase-low, row-low, spot-in, proposal-in, log-in-range}
+use Rattle.tables.specs.Addresses.{Within, phase-low, row-low, spot-in, proposal-in, log-in-range}
 
 -- more than any address
 abbrev large : ℕ
@@ -46,15 +45,15 @@ module _ (N : Numbers) {so : Sort} {s p d : ℕ} (m : Bounds N × Within N so s 
   heard-there eb el ek eq = rw (eb, el, ek, eq)
 
   -- to a state or vote
-  pub ballot-way : {l k r q : ℕ} → l ≡ slot-row N s → k ≡ ballot-rows N → r ≡ row so p → q ≡ r - 1 → Way 0 k (N .n) l q d
+  pub ballot-way : {l k r q : ℕ} → l ≡ slot-row N s → k ≡ ballot-rows N → r ≡ row so p → q ≡ r - 2 → Way 0 k (N .n) l q d
   ballot-way el ek er eq = let w = m .1 in
       let low = row-low N so p (w .phase) in
       let some = m .0 .phases-some in
       let few = ballots-few N (m .0) in
-      rw (eq, er, el, ek) (way 0 (N .slots) _ (N .n) s (row so p - 1) d (w .slot) (omega arith) (w .sender)
+      rw (eq, er, el, ek) (way 0 (N .slots) _ (N .n) s (row so p - 2) d (w .slot) (omega arith) (w .sender)
       (le-trans (ballot-rows-few N (m .0)) (omega arith)) (omega arith))
 
-  pub ballot-there : {l k r q : ℕ} → l ≡ slot-row N s → k ≡ ballot-rows N → r ≡ row so p → q ≡ r - 1 → (l * k + q) * N .n + d ≡ ballot-cell N so s p d
+  pub ballot-there : {l k r q : ℕ} → l ≡ slot-row N s → k ≡ ballot-rows N → r ≡ row so p → q ≡ r - 2 → (l * k + q) * N .n + d ≡ ballot-cell N so s p d
   ballot-there el ek er eq = rw (eq, er, el, ek)
 
 -- every number on the way to base + (q * n + d)
@@ -80,8 +79,3 @@ module _ (N : Numbers) (b : Bounds N) where
 -- a phase is small
 pub row-small : (N : Numbers) → Bounds N → (so : Sort) (p : ℕ) → phase-in N so p ≡ true → p ≤ most-phases
 row-small N b so p e = let l = phase-low N so p e in let h = b .phases-few in omega arith
-
--- a state has a phase
-pub state-phase : (N : Numbers) (p : ℕ) {so : Sort} → so ≡ States → phase-in N so p ≡ true → 1 ≤ p
-unfolding phase-in
-state-phase N p e h = phase-bounds N p (rw e at h) .0

@@ -40,7 +40,7 @@ fn message_rows(numbers: Numbers) -> usize
     requires { ⌜ Bounds numbers ⌝ }
     ensures { λ r. ⌜ r ≡ message-rows numbers ⌝ }
 {
-    2 * numbers.phases + 1
+    2 * numbers.phases + 2
 }
 
 fn ballot_rows(numbers: Numbers) -> usize
@@ -57,18 +57,19 @@ fn row_of(numbers: Numbers, sort: Sort, phase: usize) -> usize
 {
     match sort {
         Sort::Proposals => 0,
-        Sort::States => 2 * phase - 1,
-        Sort::Votes => 2 * phase,
+        Sort::States => 2 * phase,
+        Sort::Votes => 2 * phase + 1,
+        Sort::Notices => 1,
     }
 }
 
-fn less_one(x: usize) -> usize
-    ensures { λ r. ⌜ r ≡ x - 1 ⌝ }
+fn less_two(x: usize) -> usize
+    ensures { λ r. ⌜ r ≡ x - 2 ⌝ }
 {
-    if x == 0 {
+    if x < 2 {
         return 0;
     }
-    x - 1
+    x - 2
 }
 
 // ---- words: header, records, holders, heard
@@ -171,7 +172,7 @@ pub fn ballots_need(numbers: Numbers) -> usize
     numbers.slots * rows * numbers.n
 }
 
-// A proposal has no cell among the ballots; its place there is row 0.
+// Proposals and notices have no cell among the ballots; their place there is row 0.
 pub fn ballot_place(numbers: Numbers, sort: Sort, slot: usize, phase: usize, sender: usize) -> usize
     requires { ⌜ (Bounds numbers) × (Within numbers sort slot phase sender) ⌝ }
     ensures { λ r. ⌜ r ≡ ballot-cell numbers sort slot phase sender ⌝ }
@@ -179,6 +180,6 @@ pub fn ballot_place(numbers: Numbers, sort: Sort, slot: usize, phase: usize, sen
     let line = slot_row(numbers, slot);
     let rows = ballot_rows(numbers);
     let row = row_of(numbers, sort, phase);
-    let before = less_one(row);
+    let before = less_two(row);
     (line * rows + before) * numbers.n + sender
 }

@@ -6,9 +6,9 @@ use mathlib.Core.Path.{_≡_}
 use lib.ListN.{length}
 use Rattle.model.specs.declared.Numbers.{Numbers}
 use Rattle.model.specs.declared.Sort.{Sort}
-use Rattle.tables.specs.Layout.{proposal-cell, ballot-cell, heard-cell, words-need, orders-need, ballots-need}
+use Rattle.tables.specs.Layout.{proposal-cell, ballot-cell, heard-cell, log-cell, words-need, orders-need, ballots-need}
 use Rattle.tables.specs.Bounds.{Bounds}
-use Rattle.tables.specs.Addresses.{Within, proposal-in, ballot-in, heard-in}
+use Rattle.tables.specs.Addresses.{Within, proposal-in, ballot-in, heard-in, log-in-range}
 
 module _ {N : Numbers} (b : Bounds N) where
   module _ {so : Sort} {s p d i : ℕ} (w : Within N so s p d) where
@@ -21,3 +21,6 @@ module _ {N : Numbers} (b : Bounds N) where
 
   pub proposal-inside : {s d i : ℕ} (os : List ℕ) → s < N .slots → d < N .n → orders-need N ≤ length os → i ≡ proposal-cell N s d → i < length os
   proposal-inside {s} {d} os hs hd long e = omega (arith, proposal-in N s d hs hd)
+
+pub entry-inside : (N : Numbers) {c s i : ℕ} (os : List ℕ) → c < N .n → s < N .slots → orders-need N ≤ length os → i ≡ log-cell N c s → i < length os
+entry-inside N {c} {s} os hc hs long e = omega (arith, log-in-range N c s hc hs)

@@ -12,7 +12,7 @@ use borrow.Author.Tests.{leb-false, lt-leb, ne-eqb, not-false}
 use Rattle.model.specs.declared.Numbers.{Numbers}
 use Rattle.model.specs.declared.Message.{Message}
 use Rattle.model.specs.declared.Sort.{Sort}
-use Rattle.model.specs.declared.Sort.the-variants.{Proposals, States, Votes}
+use Rattle.model.specs.declared.Sort.the-variants.{Proposals, States, Votes, Notices}
 use Rattle.model.specs.declared.Word.{Word}
 use Rattle.model.specs.declared.Word.the-variants.{Unsent}
 use Rattle.model.specs.declared.Effect.{Effect}
@@ -45,7 +45,7 @@ by-mark false w e = refl
 
 module _ (N : Numbers) (ws os bs : List ℕ) (c : ℕ) (m : Message) (so : Sort) where
   abbrev Heard : Effect → Type 0
-  Heard r = r ≡ settle (hear-rule N (guarded N (sent-words N os bs)) (reading 0 0 (guarded N (inbox-in N os bs ws c))) m (some so))
+  Heard r = r ≡ settle (hear-rule N (guarded N (sent-words N ws os bs)) (reading 0 0 (guarded N (inbox-in N ws os bs c))) m (some so))
 
   abbrev Out : Bool → Type 0
   Out b = (leb (N .slots) (m .slot .0) || not (phase-in N so (m .phase .0))) ≡ b
@@ -55,9 +55,9 @@ module _ (N : Numbers) (ws os bs : List ℕ) (c : ℕ) (m : Message) (so : Sort)
   unfolding hear-rule unless if
   no-such e = rw e
 
-  module _ {w : Word} (there : m .sender .0 < N .n) (in-range : Out false) (word : w ≡ sent-words N os bs so (m .slot .0) (m .phase .0) (m .sender .0)) where
+  module _ {w : Word} (there : m .sender .0 < N .n) (in-range : Out false) (word : w ≡ sent-words N ws os bs so (m .slot .0) (m .phase .0) (m .sender .0)) where
     -- the word as the rule reads it
-    on-board : guarded N (sent-words N os bs) so (m .slot .0) (m .phase .0) (m .sender .0) ≡ w
+    on-board : guarded N (sent-words N ws os bs) so (m .slot .0) (m .phase .0) (m .sender .0) ≡ w
     on-board = guarded-at N _ (within there in-range) ∙ sym word
 
     pub not-sent : is-sent w ≡ false → Heard (Refuse NotSent)
@@ -67,7 +67,7 @@ module _ (N : Numbers) (ws os bs : List ℕ) (c : ℕ) (m : Message) (so : Sort)
     module _ {mark : Bool} (sent : is-sent w ≡ true)
         (has : mark ≡ counts-for c (m .sender .0) (getD ws (heard-cell N so (m .slot .0) (m .phase .0) (m .sender .0)) 0)) where
       -- whether it was heard, as the rule reads it
-      in-inbox : {b : Bool} → mark ≡ b → is-sent (guarded N (inbox-in N os bs ws c) so (m .slot .0) (m .phase .0) (m .sender .0)) ≡ b
+      in-inbox : {b : Bool} → mark ≡ b → is-sent (guarded N (inbox-in N ws os bs c) so (m .slot .0) (m .phase .0) (m .sender .0)) ≡ b
       in-inbox e = ap is-sent (guarded-at N _ (within there in-range)) ∙ by-mark _ _ (ap is-sent (sym word) ∙ sent) ∙ sym has ∙ e
 
       pub already : mark ≡ true → Heard (Refuse AlreadyHeard)
@@ -88,23 +88,27 @@ pub sort-2 : {x : ℕ} → x ≡ 2 → some States ≡ sort-of x
 unfolding if
 sort-2 e = rw e
 
-pub sort-3 : {x : ℕ} → (1 ≤ x) × (x ≤ 3) → x ≢ 1 → x ≢ 2 → some Votes ≡ sort-of x
+pub sort-3 : {x : ℕ} → x ≡ 3 → some Votes ≡ sort-of x
 unfolding if
-sort-3 {x} (lo, hi) a b = let e : x ≡ 3 = omega arith in rw e
+sort-3 e = rw e
+
+pub sort-4 : {x : ℕ} → (1 ≤ x) × (x ≤ 4) → x ≢ 1 → x ≢ 2 → x ≢ 3 → some Notices ≡ sort-of x
+unfolding if
+sort-4 {x} (lo, hi) a b c = let e : x ≡ 4 = omega arith in rw e
 
 module _ (N : Numbers) (sent : Messages) (k : Replica) (m : Message) where
   abbrev Comes : Effect → Option Sort → Type 0
   Comes r so = r ≡ settle (hear-rule N sent k m so)
 
-  no-sort : m .sort ≢ 1 → m .sort ≢ 2 → m .sort ≢ 3 → Comes (Refuse NoSuchMessage) (sort-of (m .sort))
+  no-sort : m .sort ≢ 1 → m .sort ≢ 2 → m .sort ≢ 3 → m .sort ≢ 4 → Comes (Refuse NoSuchMessage) (sort-of (m .sort))
   unfolding if hear-rule unless
-  no-sort a b e = rw (ne-eqb _ _ a, ne-eqb _ _ b, ne-eqb _ _ e)
+  no-sort a b c d = rw (ne-eqb _ _ a, ne-eqb _ _ b, ne-eqb _ _ c, ne-eqb _ _ d)
 
   pub sort-low : m .sort < 1 → Comes (Refuse NoSuchMessage) (sort-of (m .sort))
-  sort-low h = no-sort (λ e. omega arith) (λ e. omega arith) (λ e. omega arith)
+  sort-low h = no-sort (λ e. omega arith) (λ e. omega arith) (λ e. omega arith) (λ e. omega arith)
 
-  pub sort-high : 3 < m .sort → Comes (Refuse NoSuchMessage) (sort-of (m .sort))
-  sort-high h = no-sort (λ e. omega arith) (λ e. omega arith) (λ e. omega arith)
+  pub sort-high : 4 < m .sort → Comes (Refuse NoSuchMessage) (sort-of (m .sort))
+  sort-high h = no-sort (λ e. omega arith) (λ e. omega arith) (λ e. omega arith) (λ e. omega arith)
 
   pub sort-heard : {r : Effect} {so : Sort} → some so ≡ sort-of (m .sort) → Comes r (some so) → Comes r (sort-of (m .sort))
   sort-heard {r} e q = subst (Comes r) e q

@@ -4,7 +4,7 @@ use mathlib.Core.List.{List}
 use mathlib.Core.Path.{_≡_, _∙_, subst}
 use lib.ListN.{set}
 use Rattle.model.specs.declared.Sort.{Sort}
-use Rattle.model.specs.declared.Sort.the-variants.{Proposals, States, Votes}
+use Rattle.model.specs.declared.Sort.the-variants.{Proposals, States, Votes, Notices}
 use Rattle.model.specs.declared.Word.{Word}
 use Rattle.tables.specs.Write.{word-number, proposal-stored, ballot-stored}
 use Rattle.messages.specs.Reach.{Fitting}
@@ -28,8 +28,14 @@ module _ {so : Sort} (l : List ℕ) (i v : ℕ) where
   pub no-order-of-vote : so ≡ Votes → l ≡ proposal-stored so i v l
   no-order-of-vote e = rw e
 
+  pub no-order-of-notice : so ≡ Notices → l ≡ proposal-stored so i v l
+  no-order-of-notice e = rw e
+
   pub no-ballot : so ≡ Proposals → l ≡ ballot-stored so i v l
   no-ballot e = rw e
+
+  pub no-ballot-of-notice : so ≡ Notices → l ≡ ballot-stored so i v l
+  no-ballot-of-notice e = rw e
 
   pub state-stored : {x : ℕ} {l′ : List ℕ} → so ≡ States → x ≡ v → l′ ≡ set l i x → l′ ≡ ballot-stored so i v l
   state-stored e h q = q ∙ rw (h, e)
@@ -37,4 +43,4 @@ module _ {so : Sort} (l : List ℕ) (i v : ℕ) where
   pub vote-stored : {x : ℕ} {l′ : List ℕ} → so ≡ Votes → x ≡ v → l′ ≡ set l i x → l′ ≡ ballot-stored so i v l
   vote-stored e h q = q ∙ rw (h, e)
 
-pub ruleset stored = (order-stored, no-order-of-state, no-order-of-vote, no-ballot, state-stored, vote-stored)
+pub ruleset stored = (order-stored, no-order-of-state, no-order-of-vote, no-order-of-notice, no-ballot, no-ballot-of-notice, state-stored, vote-stored)

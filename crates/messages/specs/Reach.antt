@@ -6,7 +6,7 @@ use lib.ListN.{length}
 use Rattle.model.specs.declared.Numbers.{Numbers}
 use Rattle.model.specs.declared.Round.the-variants.{Idle}
 use Rattle.model.specs.declared.Sort.{Sort}
-use Rattle.model.specs.declared.Sort.the-variants.{Proposals, States, Votes}
+use Rattle.model.specs.declared.Sort.the-variants.{Proposals, States, Votes, Notices}
 use Rattle.model.specs.declared.Word.{Word}
 use Rattle.model.specs.Rack.{Messages, Replica}
 use Rattle.tables.specs.Layout.{words-need, orders-need, ballots-need}
@@ -19,11 +19,12 @@ pub record Reach (N : Numbers) (ws os bs : List ℕ) : Type 0 where
   pub orders : orders-need N ≤ length os
   pub ballots : ballots-need N ≤ length bs
 
--- a word that fits the cell of its sort
+-- a word that fits the cell of its sort; a notice has none
 abbrev pub Fitting : Sort → Word → Type 0
 Fitting Proposals w = Unit {0}
 Fitting States w = word-number w ≤ 3
 Fitting Votes w = word-number w ≤ 3
+Fitting Notices w = Unit {0}
 
 -- a replica as far as the rules of an advance and a hear read it: its slot and phase, and what it has heard
 abbrev pub reading : ℕ → ℕ → Messages → Replica

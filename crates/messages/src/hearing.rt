@@ -35,6 +35,7 @@ fn phase_in(numbers: Numbers, sort: Sort, phase: usize) -> bool
         Sort::Proposals => phase == 0,
         Sort::States => ballot_phase(numbers, phase),
         Sort::Votes => ballot_phase(numbers, phase),
+        Sort::Notices => phase == 0,
     }
 }
 
@@ -58,8 +59,8 @@ fn hear_message(
     ballots: &[u8],
 ) -> Effect
     requires { ⌜ (who < numbers .n) × (message .sender .0 < numbers .n) × (Reach numbers (now words) (now orders) (now ballots)) ⌝ }
-    ensures { λ r. ⌜ r ≡ settle (hear-rule numbers (guarded numbers (sent-words numbers (now (orders .entry)) (now (ballots .entry))))
-        (reading 0 0 (guarded numbers (inbox-in numbers (now (orders .entry)) (now (ballots .entry)) (now (words .entry)) who)))
+    ensures { λ r. ⌜ r ≡ settle (hear-rule numbers (guarded numbers (sent-words numbers (now (words .entry)) (now (orders .entry)) (now (ballots .entry))))
+        (reading 0 0 (guarded numbers (inbox-in numbers (now (words .entry)) (now (orders .entry)) (now (ballots .entry)) who)))
         message (some sort)) ⌝ }
 {
     let slot = message.slot.0;
@@ -84,9 +85,9 @@ fn hear_message(
     }
 }
 
-// By the number of the sort: 1 a proposal, 2 a state, 3 a vote.
+// By the number of the sort: 1 a proposal, 2 a state, 3 a vote, 4 a notice.
 pub fn sort_named(x: usize) -> Sort
-    requires { ⌜ (1 ≤ x) × (x ≤ 3) ⌝ }
+    requires { ⌜ (1 ≤ x) × (x ≤ 4) ⌝ }
     ensures { λ r. ⌜ some r ≡ sort-of x ⌝ }
 {
     if x == 1 {
@@ -95,7 +96,10 @@ pub fn sort_named(x: usize) -> Sort
     if x == 2 {
         return Sort::States;
     }
-    Sort::Votes
+    if x == 3 {
+        return Sort::Votes;
+    }
+    Sort::Notices
 }
 
 pub fn hear_rule(
@@ -107,14 +111,14 @@ pub fn hear_rule(
     ballots: &[u8],
 ) -> Effect
     requires { ⌜ (who < numbers .n) × (message .sender .0 < numbers .n) × (Reach numbers (now words) (now orders) (now ballots)) ⌝ }
-    ensures { λ r. ⌜ r ≡ settle (hear-rule numbers (guarded numbers (sent-words numbers (now (orders .entry)) (now (ballots .entry))))
-        (reading 0 0 (guarded numbers (inbox-in numbers (now (orders .entry)) (now (ballots .entry)) (now (words .entry)) who)))
+    ensures { λ r. ⌜ r ≡ settle (hear-rule numbers (guarded numbers (sent-words numbers (now (words .entry)) (now (orders .entry)) (now (ballots .entry))))
+        (reading 0 0 (guarded numbers (inbox-in numbers (now (words .entry)) (now (orders .entry)) (now (ballots .entry)) who)))
         message (sort-of (message .sort))) ⌝ }
 {
     if message.sort < 1 {
         return Effect::Refuse(Refusal::NoSuchMessage);
     }
-    if 3 < message.sort {
+    if 4 < message.sort {
         return Effect::Refuse(Refusal::NoSuchMessage);
     }
     let sort = sort_named(message.sort);

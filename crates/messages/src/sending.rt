@@ -41,8 +41,8 @@ fn store_ballot(
     ballots[at] = x as u8;
 }
 
-// The mark of a message that is sent: its sender's, and nobody else's.
-fn store_mark(
+// The mark of a message that is sent: its sender's, and nobody else's. A notice is no more than that, beside a record and an entry.
+pub fn store_mark(
     numbers: Numbers,
     who: usize,
     sort: Sort,
@@ -79,6 +79,7 @@ pub fn send_message(
         Sort::Proposals => store_proposal(numbers, who, slot, x, orders),
         Sort::States => store_ballot(numbers, who, sort, slot, phase, x, ballots),
         Sort::Votes => store_ballot(numbers, who, sort, slot, phase, x, ballots),
+        Sort::Notices => {}
     }
 }
 

@@ -17,7 +17,7 @@ use Rattle.model.specs.Limits.{planned, plan-limited}
 use Rattle.model.specs.TurnedAway.{unless}
 use Rattle.model.specs.Tests.{if}
 use Rattle.model.proofs.Cases.{and-both, or-false, or-none}
-use Rattle.tables.specs.Layout.{Tables, words-need, orders-need, ballots-need}
+use Rattle.tables.specs.Layout.{Tables, message-rows, ballot-rows, words-need, orders-need, ballots-need}
 use Rattle.tables.specs.Checks.{lengths, long}
 use Rattle.tables.specs.Bounds.{Long, is-long}
 use Rattle.tables.specs.Calls.{open-rack}
@@ -33,7 +33,7 @@ pub record AtMost (M N : Numbers) : Type 0 where
 module _ (M N : Numbers) (l : AtMost M N) where
   words-fewer : words-need N ≤ words-need M
   words-fewer =
-      let rows : 2 * N .phases + 1 ≤ 2 * M .phases + 1 = let p = l .phases in omega arith in
+      let rows : message-rows N ≤ message-rows M = let p = l .phases in omega arith in
       let a = mul-le-mul (mul-le-mul (l .slots) rows) (l .n) in
       let b = l .n in let c = l .room in omega arith
 
@@ -41,7 +41,7 @@ module _ (M N : Numbers) (l : AtMost M N) where
   orders-fewer = let a = mul-le-mul (l .slots) (l .n) in let b = mul-le-mul (l .n) (l .slots) in let c = l .room in omega arith
 
   ballots-fewer : ballots-need N ≤ ballots-need M
-  ballots-fewer = let rows : 2 * N .phases ≤ 2 * M .phases = let p = l .phases in omega arith in mul-le-mul (mul-le-mul (l .slots) rows) (l .n)
+  ballots-fewer = let rows : ballot-rows N ≤ ballot-rows M = let p = l .phases in omega arith in mul-le-mul (mul-le-mul (l .slots) rows) (l .n)
 
 module _ (most : Numbers) (q : Plan) (limits : plan-limited q ≡ true) (small : too-large most (Open q) ≡ false) where
   abbrev N : Numbers

@@ -12,7 +12,7 @@ use lib.ListN.{length, take, set as store-at, length-append, length-drop, length
 use lib.Seq.{length-take-le}
 use borrow.Author.Tests.{leb-true, ltb-false, lt-ltb, not-false}
 use Rattle.tables.specs.declared.Record.{Record}
-use Rattle.tables.specs.Types.{Numbers, Plan, ReplicaId, Sort, Proposals, States, Votes, Refusal, Effect, Refuse}
+use Rattle.tables.specs.Types.{Numbers, Plan, ReplicaId, Sort, Proposals, States, Votes, Notices, Refusal, Effect, Refuse}
 use Rattle.tables.specs.Types.{Hold, Send, Close, Seek, Receive, Halt, Act, Submit, Relay, Begin, Hear, Advance}
 use Rattle.tables.specs.Types.{Crash, Step, Call, Open, Single, RunOn, Answer, Refused, Done, Ran, Opened}
 use Rattle.model.specs.Tests.{if, some, listed}
@@ -23,7 +23,7 @@ use Rattle.coin.specs.Strip.{StripOutcome, strip-refusals, strip-filled}
 use Rattle.coin.specs.Law.{length-filled}
 use Rattle.model.proofs.Cases.{clash, and-true, or-false, if-ind, Unmet, unless-ind, unmet-both}
 use Rattle.model.proofs.Playing.{play-keeps}
-use Rattle.safety.specs.Comes.{ByRule, by-submit, by-relay, by-begin, by-hear, by-exchange, by-state}
+use Rattle.safety.specs.Comes.{ByRule, by-submit, by-relay, by-begin, by-hear, by-notice, by-exchange, by-state}
 use Rattle.safety.specs.Comes.{by-outcome-0, by-outcome-1, by-seek, by-next-phase, by-find, by-crash, past}
 use Rattle.tables.specs.Layout.{Tables, known-in, record-at, record-stored, heard-cell, proposal-cell}
 use Rattle.tables.specs.Layout.{words-need, orders-need}
@@ -100,11 +100,13 @@ proposals-length : (so : Sort) (i v : ℕ) (l : List ℕ) → length (proposal-s
 proposals-length Proposals i v l = length-set l i v
 proposals-length States i v l = refl
 proposals-length Votes i v l = refl
+proposals-length Notices i v l = refl
 
 ballots-length : (so : Sort) (i v : ℕ) (l : List ℕ) → length (ballot-stored so i v l) ≡ length l
 ballots-length Proposals i v l = refl
 ballots-length States i v l = length-set l i v
 ballots-length Votes i v l = length-set l i v
+ballots-length Notices i v l = refl
 
 tags-length : (x k : ℕ) (os : List ℕ) → length (orders-held x k os) ≡ length os
 tags-length x k os = if-ind (λ (l : List ℕ). length l ≡ length os) _ (λ _. refl) (λ _. rw length-set)
@@ -270,7 +272,7 @@ module _ (N : Numbers) (strip : List ℕ) where
 
     closing-touches : (c : ℕ) → c < N .n → (x : ℕ) → TouchesOnly N t (write N c (Close x) t) Advance
     unfolding write
-    closing-touches c there x = (record-keeps c there _ (elsewhere os _ x (inr (omega arith))), elsewhere os _ x (inr (omega arith)))
+    closing-touches c there x = (sends-keeps c there Notices _ 0 _ _ (elsewhere os _ x (inr (omega arith))), elsewhere os _ x (inr (omega arith)))
 
     slot-low : (c : ℕ) → c < N .n → view N t .at c .closed < N .slots → record-at ws c .slot < N .slots
     unfolding only if
@@ -306,6 +308,7 @@ module _ (N : Numbers) (strip : List ℕ) where
       refl,
       refl,
     )
+    rule-touches c Advance lent there (by-notice heard) = closing-touches (c .0) there _
     rule-touches c Advance lent there (by-exchange i q) = (sends-keeps (c .0) there States _ 1 _ _ (agree-self os), agree-self os)
     rule-touches c Advance lent there (by-state i q) = (sends-keeps (c .0) there Votes _ _ _ _ (agree-self os), agree-self os)
     rule-touches c Advance lent there (by-outcome-0 v o) = closing-touches (c .0) there 0

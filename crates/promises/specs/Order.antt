@@ -2,19 +2,20 @@
 -- the paragraph "Order."; and what it means that a call is turned away by such a list. specs/Refusals proves that every call
 -- is.
 use Prim.Native.Nat.{ℕ}
-use mathlib.Core.Bool.{Bool}
+use mathlib.Core.Bool.{Bool, true, false}
 use mathlib.Core.List.{List, [], _∷_, _++_, map}
 use mathlib.Core.Option.{Option, some as just, none}
-use mathlib.Core.Path.{_≡_, refl}
+use mathlib.Core.Path.{_≡_, refl, ap}
 use Rattle.tables.specs.declared.Record.{Record}
-use Rattle.tables.specs.Types.{Numbers, Plan, Idle, Exchange, State, Vote, Find, Sort, Refusal, Effect, Refuse}
+use Rattle.tables.specs.Types.{Numbers, Plan, Idle, Exchange, State, Vote, Find, Sort, Word, Refusal, Effect, Refuse}
 use Rattle.tables.specs.Types.{Hold, Send, Close, Seek, Receive, Halt, Message, Act, Submit, Relay, Begin}
 use Rattle.tables.specs.Types.{Crash, Step, Call, Open, Single, RunOn, Answer, Refused, Done, Ran, Opened}
 use Rattle.model.specs.Tests.{if}
 use Rattle.model.specs.Answers.{refusal-number}
-use Rattle.model.specs.Rack.{Rack, Replica}
+use Rattle.model.specs.Rack.{is-sent, Rack, Replica}
 use Rattle.model.specs.TurnedAway.{Ground, Rule}
-use Rattle.model.specs.Rules.{advance-rule, hear-rule, own-rule, first-refusals, rule}
+use Rattle.model.specs.Rules.{advance-rule, heed, hear-rule, own-rule, first-refusals, rule}
+use Rattle.model.proofs.Branches.{if-true, if-false}
 use Rattle.model.specs.Scripts.{advance}
 use Rattle.coin.specs.Strip.{strip-refusals}
 use Rattle.tables.specs.Layout.{Tables}
@@ -85,6 +86,11 @@ module _ (N : Numbers) where
     pub hears : (m : Message) (so : Sort) → (of (hear-rule N (r .sent) k m none) ≡ 16 ∷ []) × (of (hear-rule N (r .sent) k m (just so)) ≡ 16 ∷ 17 ∷ 18 ∷ [])
     unfolding hear-rule
     hears m so = (refl, refl)
+
+    -- "ahead of every other rule": with a heard notice there is no refusal left, and without one those of the round
+    pub heeds : (w : Word) (otherwise : Rule) → (is-sent w ≡ true → of (heed w otherwise) ≡ []) × (is-sent w ≡ false → heed w otherwise ≡ otherwise)
+    unfolding heed
+    heeds w otherwise = (λ e. ap of (if-true _ _ e), λ e. if-false _ _ e)
 
     -- "advance and run on 13, 14, 15", of which each round has its own
     pub advances : (flip : Bool) → (of (advance-rule N flip k Idle) ≡ 13 ∷ []) × (of (advance-rule N flip k Exchange) ≡ 14 ∷ [])

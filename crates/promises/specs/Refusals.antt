@@ -18,7 +18,7 @@ use Rattle.model.specs.Limits.{limited}
 use Rattle.model.specs.Rules.{own-rule, rule}
 use Rattle.model.specs.Scripts.{Script, play, answered, advance, goes-on, running, most-advances, Played}
 use Rattle.model.proofs.Cases.{clash, if-ind, Unmet, unmet-both}
-use Rattle.safety.specs.Comes.{ByRule, by-submit, by-relay, by-begin, by-hear, by-exchange, by-state}
+use Rattle.safety.specs.Comes.{ByRule, by-submit, by-relay, by-begin, by-hear, by-notice, by-exchange, by-state}
 use Rattle.safety.specs.Comes.{by-outcome-0, by-outcome-1, by-seek, by-next-phase, by-find, by-crash, past}
 use Rattle.coin.specs.Strip.{StripOutcome, strip-refusals, strip-filled}
 use Rattle.tables.specs.Layout.{Tables, record-end, record-at}
@@ -50,6 +50,7 @@ rule-accepts (by-submit a b d) = refl
 rule-accepts (by-relay a b d) = refl
 rule-accepts (by-begin was a ne) = refl
 rule-accepts (by-hear so a b d e g) = refl
+rule-accepts (by-notice heard) = refl
 rule-accepts (by-exchange was q) = refl
 rule-accepts (by-state was q) = refl
 rule-accepts (by-outcome-0 v e) = refl

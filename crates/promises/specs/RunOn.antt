@@ -11,7 +11,8 @@ use Rattle.model.specs.Rack.{round-in, Replica}
 use Rattle.model.specs.Scripts.{Played, play, advance, goes-on, running, RunsOn, most-advances}
 use Rattle.model.proofs.Cases.{round-back, clash, unless-ind, unmet-both}
 use Rattle.model.proofs.Playing.{run-ends, run-enough, run-further}
-use Rattle.safety.specs.Comes.{ByRule, by-exchange, by-state, by-outcome-0, by-outcome-1, by-seek, by-next-phase, by-find, past}
+use Rattle.safety.specs.Comes.{ByRule, by-notice, by-exchange, by-state, by-outcome-0, by-outcome-1, by-seek, by-next-phase}
+use Rattle.safety.specs.Comes.{by-find, past}
 use Rattle.safety.specs.RunOn.{left, left-below}
 use Rattle.tables.specs.Layout.{Tables, record-end, record-at}
 use Rattle.tables.specs.View.{view}
@@ -50,6 +51,7 @@ module _ (N : Numbers) (strip : List ℕ) (c : ReplicaId) where
 
       by-rule : {e : Effect} → ByRule N (view N t) (view N t .at (c .0)) Advance e → Fewer e
       unfolding write left
+      by-rule (by-notice heard) g = clash g
       by-rule (by-exchange was q) g = rw (sent-left (t .words) _ _ State _ 1 there, as-read, was) (omega arith)
       by-rule (by-state was q) g = rw (sent-left (t .words) _ _ Vote _ _ there, as-read, was) (omega arith)
       by-rule (by-outcome-0 v e) g = clash g

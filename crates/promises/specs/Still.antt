@@ -11,25 +11,25 @@ use lib.ListN.{length, take, length-set, set as store-at}
 use lib.Seq.{getD-set-same, length-take-le}
 use borrow.Author.Tests.{le-ltb, lt-leb}
 use Rattle.tables.specs.declared.Record.{Record}
-use Rattle.tables.specs.Types.{Numbers, Round, Idle, Exchange, State, Vote, Find, Sort, Proposals, States, Votes, Effect, Act, Step}
+use Rattle.tables.specs.Types.{Numbers, Round, Idle, Exchange, State, Vote, Find, Sort, Proposals, States, Votes, Notices, Effect, Act, Step}
 use Rattle.model.specs.Tests.{listed}
 use Rattle.model.specs.Rack.{same-round, round-of, Replica}
 use Rattle.model.specs.Rules.{is-crash, phase-in}
 use Rattle.model.specs.Scripts.{play, accepted}
 use Rattle.model.proofs.Cases.{clash, if-ind, unless-ind, unmet-both}
 use Rattle.model.proofs.Counting.{any-nowhere}
-use Rattle.safety.specs.Comes.{ByRule, by-submit, by-relay, by-begin, by-hear, by-exchange, by-state}
+use Rattle.safety.specs.Comes.{ByRule, by-submit, by-relay, by-begin, by-hear, by-notice, by-exchange, by-state}
 use Rattle.safety.specs.Comes.{by-outcome-0, by-outcome-1, by-seek, by-next-phase, by-find, by-crash, past}
 use Rattle.tables.specs.Layout.{Tables, known-cell, known-in, record-end, record-at, record-stored, holders-base, holder-cell, heard-cell}
 use Rattle.tables.specs.View.{view}
 use Rattle.tables.specs.Records.{other-record, same-record}
 use Rattle.tables.specs.Sections.{elsewhere, record-elsewhere, record-agrees}
-use Rattle.tables.specs.Write.{moved, entered, words-held, words-sent, write}
+use Rattle.tables.specs.Write.{moved, entered, words-held, words-sent, words-closed, write}
 use Rattle.tables.specs.Checks.{lengths, misplaced, spoiled, any-spoiled}
 use Rattle.tables.specs.Calls.{lent-refusals, judge, performed, stepped}
 use Rattle.tables.specs.Bounds.{Long}
 use Rattle.tables.specs.Addresses.{state-in}
-use Rattle.tables.specs.Sound.{moved-fine, Sound, lent-sound, record-there, own-unspoiled, stands, own-view, seen-low}
+use Rattle.tables.specs.Sound.{moved-fine, Sound, lent-sound, record-there, own-unspoiled, stands, own-view, seen-low, noticed-low}
 use Rattle.promises.specs.Order.{step-refusals}
 use Rattle.promises.specs.Kept.{step-lengths-kept}
 
@@ -130,24 +130,25 @@ module _ (N : Numbers) (t : Tables) (fine : Sound N t) where
     low : (a : Round) → same-round a Idle ≡ false → seen .round ≡ a → k .slot < slots
     low a busy q = seen-low N fine here a busy q
 
+    -- the mark of its message is stored, and it enters a round
+    marks : (so : Sort) (q : ℕ) (a : Round) (s p : ℕ) → misplaced N a s p ≡ false
+        → Stays (entered (store-at ws (heard-cell N so (k .slot) q c) (2 ^ c)) c a s p)
+    marks so q a s p e = let i = heard-cell N so (k .slot) q c in
+        enters (store-at ws i (2 ^ c)) a s p (rw length-set (record-there N fine here)) e (stored-behind i (2 ^ c) (omega arith))
+
     -- it sends a message, and waits in the round of that
     sends : (so : Sort) (p : ℕ) → misplaced N (round-of so) (k .slot) p ≡ false → Stays (words-sent N c so p ws)
-    sends so p e = let i = heard-cell N so (k .slot) p c in
-        enters (store-at ws i (2 ^ c)) (round-of so) (k .slot) p (rw length-set (record-there N fine here)) e (stored-behind i (2 ^ c) (omega arith))
+    sends so p e = marks so p (round-of so) (k .slot) p e
 
     -- a state is sent for a phase of the run
     sends-state : (p : ℕ) → k .slot < slots → 1 ≤ p → p ≤ phases → Stays (words-sent N c States p ws)
     unfolding misplaced
     sends-state p l some few = sends States p (ap₂ (λ (a b : Bool). a || not b) (lt-leb slots (k .slot) l) (state-in N p some few))
 
-    -- it enters a round by itself
-    stands-by : (a : Round) (s p : ℕ) → misplaced N a s p ≡ false → Stays (entered ws c a s p)
-    stands-by a s p e = enters ws a s p (record-there N fine here) e unchanged
-
-    -- it closes its slot
-    closed : k .slot < slots → Stays (entered ws c Idle (suc (k .slot)) (k .phase))
+    -- it closes its slot, and so sends its notice
+    closed : k .slot < slots → Stays (words-closed N c ws)
     unfolding misplaced
-    closed l = stands-by Idle _ _ (le-ltb slots (suc (k .slot)) l)
+    closed l = marks Notices 0 Idle _ _ (le-ltb slots (suc (k .slot)) l)
 
     -- it holds a tag that is known, or for which there is room
     holds : (x : ℕ) → (listed x (take (known-in ws) (t .orders)) ≡ true) ⊎ (length (take (known-in ws) (t .orders)) < room)
@@ -173,11 +174,12 @@ module _ (N : Numbers) (t : Tables) (fine : Sound N t) where
     by-rule no-crash (by-begin idle open-slot some) = let l = subst (λ (x : Replica). x .closed < slots) (own-view N t here) open-slot in
         sends Proposals 0 (lt-leb slots (k .slot) l)
     by-rule no-crash (by-hear so hd hs hp sent free) = stored-behind _ _ (omega arith)
+    by-rule no-crash (by-notice heard) = closed (noticed-low N t here heard)
     by-rule no-crash (by-exchange was enough) = sends-state 1 (low Exchange refl was) (omega arith) (fine .within .phases-some)
     by-rule no-crash (by-state was enough) = sends Votes (seen .phase) (placed State was)
     by-rule no-crash (by-outcome-0 v o) = closed (low Vote refl (v .in-round))
     by-rule no-crash (by-outcome-1 v o some) = closed (low Vote refl (v .in-round))
-    by-rule no-crash (by-seek v o none) = stands-by Find _ _ (lt-leb slots (k .slot) (low Vote refl (v .in-round)))
+    by-rule no-crash (by-seek v o none) = enters ws Find _ _ (record-there N fine here) (lt-leb slots (k .slot) (low Vote refl (v .in-round))) unchanged
     by-rule no-crash (by-next-phase flip v o more) = sends-state (suc (seen .phase)) (low Vote refl (v .in-round)) (omega arith) more
     by-rule no-crash (by-find was some) = closed (low Find refl was)
     by-rule no-crash by-crash = clash (sym no-crash)

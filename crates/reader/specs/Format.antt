@@ -38,7 +38,8 @@ plan-at file i = record {
   start = number 2 file (i + 6);
 }
 
--- "4 hear: receiver, sender, sort (1 proposal, 2 state, 3 vote), slot, phase (0 for a proposal)": what follows the receiver
+-- "4 hear: receiver, sender, sort (1 proposal, 2 state, 3 vote), slot, phase (0 for a proposal)": what follows the receiver. Document
+-- 02 has sort 4, with phase 0, for a notice.
 abbrev pub message-at : List ℕ → ℕ → Message
 message-at file i = record {
   sender = replica file i;

@@ -21,7 +21,7 @@ fn rehearse(file: &[u8], report: &mut [u8]) -> usize
         phases: 8,
         room: 64,
     };
-    let mut words = [0u16; 1997];
+    let mut words = [0u16; 2109];
     let mut orders = [0u64; 288];
     let mut ballots = [0u8; 1792];
     let mut strip = [0u8; 128];

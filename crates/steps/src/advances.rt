@@ -1,6 +1,6 @@
-// Advance: judged by the rule of the replica's round, and carried out. A run on is built of the same.
+// Advance: judged by a heard notice, else by the rule of the replica's round, and carried out. A run on is built of the same.
 use acts::effect::answer_of;
-use advance::advance_rule;
+use advance::notices::heed;
 use cells::records::load;
 use cells::records::round_in;
 use effects::carry::carry_advance;
@@ -64,7 +64,7 @@ fn judge_advance(
             let k = load(words, who.0);
             let slot = k.slot as usize;
             let phase = k.phase as usize;
-            advance_rule(
+            heed(
                 numbers,
                 who.0,
                 round_in(k.round),
@@ -100,7 +100,7 @@ pub fn advance_once(
     effect
 }
 
-// By the rule of the replica's round. The call of the library; it has no `requires`.
+// By a heard notice, else by the rule of the replica's round. The call of the library; it has no `requires`.
 pub fn advance(
     numbers: Numbers,
     who: ReplicaId,

@@ -3,6 +3,7 @@ pub mod Layout
 pub mod Bounds
 pub mod Addresses
 pub mod View
+pub mod Notices
 pub mod Records
 pub mod Masks
 pub mod Sections

@@ -6,18 +6,20 @@ use mathlib.Core.Path.{_≡_, refl, sym, _∙_, ap, ap₂, subst}
 use lib.Dec.{leb, ltb}
 use lib.ListN.{length}
 use borrow.Author.Tests.{ltb-false, leb-false, le-leb, le-ltb, lt-ltb, not-false}
-use Rattle.tables.specs.Types.{Numbers, Round, Idle, Exchange, State, Vote, Find, States, Votes, Step, Record}
+use Rattle.tables.specs.Types.{Numbers, Round, Idle, Exchange, State, Vote, Find, States, Votes, Notices, Step, Record}
 use Rattle.model.specs.Tests.{if}
 use Rattle.model.specs.Limits.{limited}
-use Rattle.model.specs.Rack.{round-number, round-in, same-round, Replica}
-use Rattle.model.specs.Rules.{is-crash, phase-in}
+use Rattle.model.specs.Rack.{round-number, round-in, same-round, is-sent, Replica}
+use Rattle.model.specs.Rules.{is-crash, phase-in, seen, notice}
 use Rattle.model.proofs.Branches.{if-true}
 use Rattle.model.proofs.Cases.{clash, or-false, Unmet, round-back}
 use Rattle.model.proofs.Counting.{any-false}
+use Rattle.model.proofs.FirstSent.{first-found}
 use Rattle.tables.specs.Layout.{Tables, known-in, record-end, record-at}
 use Rattle.tables.specs.View.{only, replica-at, view}
 use Rattle.tables.specs.Write.{moved}
 use Rattle.tables.specs.Checks.{lengths, misplaced, spoiled, spoiled-at, any-spoiled, tables-refusals, record-refusals}
+use Rattle.tables.specs.Addresses.{guarded-sent}
 use Rattle.tables.specs.Bounds.{Bounds, bounds, Long, is-long}
 use Rattle.tables.specs.Calls.{lent-refusals}
 
@@ -122,3 +124,10 @@ module _ (N : Numbers) where
     -- in a round its slot is one of the run
     pub seen-low : (a : Round) → same-round a Idle ≡ false → view N t .at c .round ≡ a → record-at (t .words) c .slot < N .slots
     seen-low a busy q = in-slot N _ _ a busy (seen-stands a q)
+
+  -- a heard notice is of a slot that is open
+  pub noticed-low : (t : Tables) {c : ℕ} → c < n → is-sent (notice N (view N t .at c)) ≡ true → record-at (t .words) c .slot < N .slots
+  noticed-low t {c} there h =
+      let heard = subst (λ (k : Replica). is-sent (notice N k) ≡ true) (own-view t there) h in
+      let found = first-found (seen (replica-at N t c) Notices 0) 0 n heard in
+      guarded-sent N _ (ap is-sent (sym (found .says)) ∙ heard) .slot

@@ -22,4 +22,4 @@ pub record InPhase (N : Numbers) (c : ℕ) (so : Sort) (s p : ℕ) (ws os bs : L
 
 -- replica c in a slot and phase, with what the memories say that it has heard
 abbrev pub heard-by : Numbers → ℕ → ℕ → ℕ → List ℕ → List ℕ → List ℕ → Replica
-heard-by N c s p ws os bs = reading s p (inbox-in N os bs ws c)
+heard-by N c s p ws os bs = reading s p (inbox-in N ws os bs c)

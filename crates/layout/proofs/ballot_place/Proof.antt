@@ -12,7 +12,7 @@ mul-result c =
     omega (
       arith,
       ballot-way _ (start .pre) (after-slot-row .slot-row .ensures) (after-ballot-rows .ballot-rows .ensures)
-          (c .before .row-of .ensures) (c .less-one .ensures) .slot,
+          (c .before .row-of .ensures) (c .less-two .ensures) .slot,
     )
 
 add-result : tie.Need-add-result
@@ -23,7 +23,7 @@ add-result c =
     omega (
       arith,
       ballot-way _ (start .pre) (after-slot-row .slot-row .ensures) (after-ballot-rows .ballot-rows .ensures)
-          (c .before .row-of .ensures) (c .less-one .ensures) .line,
+          (c .before .row-of .ensures) (c .less-two .ensures) .line,
     )
 
 mul-result-2 : tie.Need-mul-result-2
@@ -35,7 +35,7 @@ mul-result-2 c =
     omega (
       arith,
       ballot-way _ (start .pre) (after-slot-row .slot-row .ensures) (after-ballot-rows .ballot-rows .ensures)
-          (after-row-of .row-of .ensures) (c .before .less-one .ensures) .block,
+          (after-row-of .row-of .ensures) (c .before .less-two .ensures) .block,
     )
 
 add-result-2 : tie.Need-add-result-2
@@ -47,7 +47,7 @@ add-result-2 c =
     omega (
       arith,
       ballot-way _ (start .pre) (after-slot-row .slot-row .ensures) (after-ballot-rows .ballot-rows .ensures)
-          (after-row-of .row-of .ensures) (c .before .less-one .ensures) .cell,
+          (after-row-of .row-of .ensures) (c .before .less-two .ensures) .cell,
     )
 
 pub ballot-place-spec : {M : Type 1} → statement M

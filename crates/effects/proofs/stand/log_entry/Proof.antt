@@ -1,4 +1,4 @@
-use Rattle.effects.proofs.StandLaws.{entry-inside}
+use Rattle.messages.proofs.CellLaws.{entry-inside}
 use borrow.Author.Needs.{needs}
 use Rattle.effects.proofs.stand.log_entry.Statement.{statement}
 use Rattle.effects.proofs.stand.log_entry.Tie as tie

@@ -24,8 +24,8 @@ passed k =
 load-requires : tie.Need-load-requires
 load-requires c κs = record-asks (passed c)
 
-advance-rule-requires : tie.Need-advance-rule-requires
-advance-rule-requires c κs =
+heed-requires : tie.Need-heed-requires
+heed-requires c κs =
     let after-enum-told : tie.After-enum-told = search in
     let after-load : tie.After-load = search in
     advance-asks (passed after-enum-told) (after-load .load .ensures) (c .round-in .ensures)
@@ -42,7 +42,7 @@ returns-2 c =
     let after-load : tie.After-load = search in
     let after-round-in : tie.After-round-in = search in
     judge-rules _ _ _ _ _ refl (after-admit .admit .ensures) (after-enum-told .enum-told .given .1)
-    (advances (passed after-enum-told) (after-load .load .ensures) (after-round-in .round-in .ensures) _ (c .advance-rule .ensures))
+    (advances (passed after-enum-told) (after-load .load .ensures) (after-round-in .round-in .ensures) _ (c .heed .ensures))
 
 pub judge-advance-spec : {M : Type 1} → statement M
 judge-advance-spec =
@@ -55,6 +55,6 @@ judge-advance-spec =
     (λ c. search needs)
     (λ c. search needs)
     (λ c κs. search needs)
-    advance-rule-requires
+    heed-requires
     returns
     returns-2)
