@@ -52,10 +52,11 @@ enum rushhopper_round {
 enum rushhopper_sort {
     RUSHHOPPER_SORT_PROPOSAL = 1,
     RUSHHOPPER_SORT_STATE = 2,
-    RUSHHOPPER_SORT_VOTE = 3
+    RUSHHOPPER_SORT_VOTE = 3,
+    RUSHHOPPER_SORT_NOTICE = 4 /* the sender has closed the slot, and this is its entry */
 };
 
-/* A message, as rushhopper_hear_in takes it: sort is an enum rushhopper_sort; a proposal's phase is 0. */
+/* A message, as rushhopper_hear_in takes it: sort is an enum rushhopper_sort; the phase of a proposal or notice is 0. */
 struct rushhopper_message {
     size_t sort;
     struct rushhopper_slot slot;
@@ -63,7 +64,8 @@ struct rushhopper_message {
     struct rushhopper_replica sender;
 };
 
-/* Document 01's refusals; its own word stands behind a name that differs. The last three occur in step files only. */
+/* Document 01's refusals; its own word stands behind a name that differs. 13, 14 and 15 are given only where the replica has
+ * heard no notice of its current slot. The last three occur in step files only. */
 enum rushhopper_refusal {
     RUSHHOPPER_ACCEPTED = 0,
     RUSHHOPPER_BAD_PLAN = 1,          /* opening or strip: a number beyond the limits */
@@ -78,12 +80,12 @@ enum rushhopper_refusal {
     RUSHHOPPER_BUSY = 10,             /* begin in a round */
     RUSHHOPPER_LOG_FULL = 11,         /* begin, all slots closed */
     RUSHHOPPER_NOTHING_PENDING = 12,  /* begin, no pending tag */
-    RUSHHOPPER_NOT_BEGUN = 13,        /* "idle": advance or run on while idle */
+    RUSHHOPPER_NOT_BEGUN = 13,        /* "idle": advance or run on while idle, no notice heard for the next slot */
     RUSHHOPPER_TOO_FEW_HEARD = 14,    /* below the quorum; in the find round, no majority */
     RUSHHOPPER_PHASES_USED_UP = 15,   /* the vote round of the last phase would go on to another */
-    RUSHHOPPER_NO_SUCH_MESSAGE = 16,  /* hear: sort, slot or phase out of range */
-    RUSHHOPPER_NOT_SENT = 17,         /* "unsent": the sender hasn't sent it */
-    RUSHHOPPER_ALREADY_HEARD = 18,    /* "heard": the receiver has heard it */
+    RUSHHOPPER_NO_SUCH_MESSAGE = 16,  /* hear: sort, slot or phase out of range; proposals and notices have phase 0 */
+    RUSHHOPPER_NOT_SENT = 17,         /* "unsent": the sender hasn't sent it; of a notice, hasn't closed that slot */
+    RUSHHOPPER_ALREADY_HEARD = 18,    /* "heard": the receiver has heard it; its own, since it was sent */
     RUSHHOPPER_UNKNOWN_KIND = 19,     /* a record of no known kind */
     RUSHHOPPER_CUT_RECORD = 20,       /* the file ends inside a record */
     RUSHHOPPER_OUT_OF_PLACE = 21      /* a step before an accepted opening, or an opening after one */
@@ -101,7 +103,7 @@ struct rushhopper_played { size_t written, opened; struct rushhopper_numbers num
  * as in an opening. The functions are the same for numbers that are known only when the program runs. */
 #define RUSHHOPPER_PHASES(phases) ((size_t)((phases) == 0 ? 8 : (phases)))
 #define RUSHHOPPER_WORDS_LENGTH(n, slots, phases, room) \
-    (4 * (size_t)(n) + 1 + (size_t)(room) + (size_t)(slots) * (2 * RUSHHOPPER_PHASES(phases) + 1) * (size_t)(n))
+    (4 * (size_t)(n) + 1 + (size_t)(room) + (size_t)(slots) * (2 * RUSHHOPPER_PHASES(phases) + 2) * (size_t)(n))
 #define RUSHHOPPER_ORDERS_LENGTH(n, slots, room) ((size_t)(room) + 2 * (size_t)(slots) * (size_t)(n))
 #define RUSHHOPPER_BALLOTS_LENGTH(n, slots, phases) (2 * (size_t)(slots) * RUSHHOPPER_PHASES(phases) * (size_t)(n))
 #define RUSHHOPPER_STRIP_LENGTH(slots, phases) ((size_t)(slots) * RUSHHOPPER_PHASES(phases))
@@ -181,17 +183,20 @@ size_t rushhopper_begin(struct rushhopper_numbers numbers, struct rushhopper_rep
                         RUSHHOPPER_MEMORIES, const uint8_t *strip, size_t strip_length);
 
 /* The receiver hears a message that the sender has sent; of any slot and phase, and from a crashed sender too. sort is an
- * enum rushhopper_sort; a proposal's phase is 0. Refusals 16, 17, 18. */
+ * enum rushhopper_sort; the phase of a proposal or notice is 0. A notice is sent by closing its slot, in whatever way, and an
+ * empty slot has one too. Refusals 16, 17, 18. */
 size_t rushhopper_hear(struct rushhopper_numbers numbers, struct rushhopper_replica receiver,
                        struct rushhopper_replica sender, size_t sort, struct rushhopper_slot slot,
                        struct rushhopper_phase phase, RUSHHOPPER_MEMORIES, const uint8_t *strip, size_t strip_length);
 
-/* One step by the round that the replica is in: sends the next message, closes the slot or enters the find round.
- * Refusals 13, 14, 15. */
+/* A replica that has heard a notice of its current slot, idle or in any round, closes the slot with that entry; of several
+ * notices the lowest sender's counts. Else one step by the round that it is in: it sends the next message, closes the slot or
+ * enters the find round. Refusals 13, 14, 15. */
 size_t rushhopper_advance(struct rushhopper_numbers numbers, struct rushhopper_replica who,
                           RUSHHOPPER_MEMORIES, const uint8_t *strip, size_t strip_length);
 
-/* Advances until a slot is closed or the next advance is refused; refused if the first is. */
+/* Advances until a slot is closed or the next advance is refused; refused if the first is. A close by a notice is one of the
+ * advances, and the only one of an idle replica. */
 struct rushhopper_ran rushhopper_run_on(struct rushhopper_numbers numbers, struct rushhopper_replica who,
                                         RUSHHOPPER_MEMORIES, const uint8_t *strip, size_t strip_length);
 

@@ -16,6 +16,7 @@ The text has one step to a line; blank lines and what follows a # are passed ove
     hear 0 1 proposal 0        # receiver sender sort slot
     hear 0 1 state 0 1         # the same and the phase
     hear 0 1 vote 0 1
+    hear 2 0 notice 0          # as for a proposal: no phase
     advance 0
     crash 1
     run on 0
@@ -76,7 +77,7 @@ KINDS = (
     declare("crash", controller=1),
     declare("run on", controller=1),
 )
-SORTS = {"proposal": 1, "state": 2, "vote": 3}
+SORTS = {"proposal": 1, "state": 2, "vote": 3, "notice": 4}
 SORT_WORDS = {number: word for word, number in SORTS.items()}
 HALF_TAG = 2**32
 
@@ -95,11 +96,11 @@ REFUSALS = {
     10: ("busy", "begin in a round"),
     11: ("log full", "begin, all slots closed"),
     12: ("nothing pending", "begin, no pending tag"),
-    13: ("idle", "advance or run on while idle"),
+    13: ("idle", "advance or run on while idle, no notice heard for the next slot"),
     14: ("too few heard", "below quota; in find, no majority"),
     15: ("phases used up", "vote round of the last phase would go on to another"),
-    16: ("no such message", "sort, slot or phase out of range"),
-    17: ("unsent", "the sender hasn't sent it"),
+    16: ("no such message", "sort, slot or phase out of range; proposals and notices have phase 0"),
+    17: ("unsent", "the sender hasn't sent it; of a notice, hasn't closed that slot"),
     18: ("heard", "the receiver has heard it"),
     UNKNOWN_KIND: ("unknown kind", "no step has this kind"),
     CUT_RECORD: ("cut record", "the file ends inside a body"),
@@ -140,14 +141,14 @@ def wanted(field):
     if field.name == "tag":
         return f"a tag (a number from 0 to {most}, or time:number with each from 0 to {HALF_TAG - 1})"
     if field.name == "sort":
-        return "a sort (proposal, state, vote)"
+        return f"a sort ({', '.join(SORTS)})"
     return f"a number from 0 to {most} as {field.name}"
 
 
 def wanted_words(kind):
     names = ", ".join(field.name for field in kind.fields)
     count = len(kind.fields)
-    note = "; no phase for a proposal" if kind.word == "hear" else ""
+    note = "; no phase for a proposal or notice" if kind.word == "hear" else ""
     return f"{count} {'word' if count == 1 else 'words'} ({names}{note})"
 
 
@@ -203,7 +204,7 @@ def field_text(field, number):
 
 def step_text(step):
     words = [field_text(field, number) for field, number in zip(step.kind.fields, step.numbers)]
-    if words[2:3] == ["proposal"] and words[-1] == "0":
+    if words[2:3] in (["proposal"], ["notice"]) and words[-1] == "0":
         words.pop()
     return " ".join([step.kind.word, *words])
 

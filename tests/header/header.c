@@ -15,7 +15,7 @@ RUSHHOPPER_DEFINE_MEMORIES(rack, 3, 2, 0, 4);
 RUSHHOPPER_DEFINE_MEMORIES(largest, 15, 64, 32, 256);
 
 static const struct rushhopper_numbers alone = {1, 0, 1, 1, 1}, three = {3, 1, 2, 0, 4}, most = {15, 7, 64, 32, 256};
-static const struct rushhopper_replica zero = {0}, one = {1}, beyond = {3}, farthest = {SIZE_MAX};
+static const struct rushhopper_replica zero = {0}, one = {1}, two = {2}, beyond = {3}, farthest = {SIZE_MAX};
 
 static int failed;
 
@@ -50,9 +50,9 @@ static void lengths_are_exact(struct rushhopper_memories *memories, struct rushh
 /* The numbers of README.md, "Sizes of the memories". */
 static void bytes_are_those_of_the_readme(void)
 {
-    EXPECT(RUSHHOPPER_BYTES(3, 64, 8, 256) == 15770 && RUSHHOPPER_BYTES(3, 64, 32, 256) == 44954);
-    EXPECT(RUSHHOPPER_BYTES(5, 64, 8, 256) == 24234 && RUSHHOPPER_BYTES(5, 64, 32, 256) == 71850);
-    EXPECT(RUSHHOPPER_BYTES(15, 64, 8, 256) == 66554 && RUSHHOPPER_BYTES(15, 64, 32, 256) == 206330);
+    EXPECT(RUSHHOPPER_BYTES(3, 64, 8, 256) == 16154 && RUSHHOPPER_BYTES(3, 64, 32, 256) == 45338);
+    EXPECT(RUSHHOPPER_BYTES(5, 64, 8, 256) == 24874 && RUSHHOPPER_BYTES(5, 64, 32, 256) == 72490);
+    EXPECT(RUSHHOPPER_BYTES(15, 64, 8, 256) == 68474 && RUSHHOPPER_BYTES(15, 64, 32, 256) == 208250);
 }
 
 static void nothing_goes_before_an_opening(void)
@@ -193,7 +193,7 @@ static void a_message_is_heard(void)
     const struct rushhopper_message sent = {RUSHHOPPER_SORT_PROPOSAL, {0}, {0}, one};
     struct rushhopper_message other_sort = sent, other_slot = sent, other_phase = sent, other_sender = sent;
 
-    other_sort.sort = RUSHHOPPER_SORT_VOTE + 1;
+    other_sort.sort = RUSHHOPPER_SORT_NOTICE + 1;
     other_slot.slot.index = 1;
     other_phase.phase.index = 1;
     other_sender.sender = beyond;
@@ -206,6 +206,62 @@ static void a_message_is_heard(void)
     EXPECT(rushhopper_hear_in(&rack, zero, other_sender) == RUSHHOPPER_NO_SUCH_REPLICA);
     EXPECT(rushhopper_hear_in(&rack, zero, sent) == RUSHHOPPER_ACCEPTED);
     EXPECT(rushhopper_hear_in(&rack, zero, sent) == RUSHHOPPER_ALREADY_HEARD);
+}
+
+/* Replicas 0 and 1 propose these tags, hear each other in every round of phase 1 and so close slot 0. */
+static void two_close_the_first_slot(uint64_t tag_of_zero, uint64_t tag_of_one)
+{
+    size_t sort;
+
+    EXPECT(rushhopper_open_in(&rack, three, 0) == RUSHHOPPER_ACCEPTED);
+    EXPECT(rushhopper_submit_in(&rack, zero, tag_of_zero) == RUSHHOPPER_ACCEPTED);
+    EXPECT(rushhopper_submit_in(&rack, one, tag_of_one) == RUSHHOPPER_ACCEPTED);
+    EXPECT(rushhopper_begin_in(&rack, zero) == RUSHHOPPER_ACCEPTED);
+    EXPECT(rushhopper_begin_in(&rack, one) == RUSHHOPPER_ACCEPTED);
+    for (sort = RUSHHOPPER_SORT_PROPOSAL; sort <= RUSHHOPPER_SORT_VOTE; sort++) {
+        const size_t phase = sort == RUSHHOPPER_SORT_PROPOSAL ? 0 : 1;
+        const struct rushhopper_message of_zero = {sort, {0}, {phase}, zero}, of_one = {sort, {0}, {phase}, one};
+        EXPECT(rushhopper_hear_in(&rack, zero, of_one) == RUSHHOPPER_ACCEPTED);
+        EXPECT(rushhopper_hear_in(&rack, one, of_zero) == RUSHHOPPER_ACCEPTED);
+        EXPECT(rushhopper_advance_in(&rack, zero) == RUSHHOPPER_ACCEPTED);
+        EXPECT(rushhopper_advance_in(&rack, one) == RUSHHOPPER_ACCEPTED);
+    }
+}
+
+static void a_notice_is_refused(void)
+{
+    const struct rushhopper_message sent = {RUSHHOPPER_SORT_NOTICE, {0}, {0}, one};
+    struct rushhopper_message other_slot = sent, no_slot = sent, other_phase = sent, other_sender = sent;
+
+    other_slot.slot.index = 1;
+    no_slot.slot.index = 2;
+    other_phase.phase.index = 1;
+    other_sender.sender = two;
+    EXPECT(RUSHHOPPER_SORT_NOTICE == 4);
+    two_close_the_first_slot(7, 7);
+    EXPECT(rushhopper_hear_in(&rack, two, other_slot) == RUSHHOPPER_NOT_SENT);
+    EXPECT(rushhopper_hear_in(&rack, two, no_slot) == RUSHHOPPER_NO_SUCH_MESSAGE);
+    EXPECT(rushhopper_hear_in(&rack, two, other_phase) == RUSHHOPPER_NO_SUCH_MESSAGE);
+    EXPECT(rushhopper_hear_in(&rack, zero, other_sender) == RUSHHOPPER_NOT_SENT);
+    EXPECT(rushhopper_hear_in(&rack, one, sent) == RUSHHOPPER_ALREADY_HEARD);
+}
+
+/* Equal tags close the slot with that tag, different ones close it as empty. */
+static void a_notice_closes_a_slot(uint64_t tag_of_zero, uint64_t tag_of_one, uint64_t entry)
+{
+    const struct rushhopper_message sent = {RUSHHOPPER_SORT_NOTICE, {0}, {0}, one};
+    const struct rushhopper_slot first = {0};
+    struct rushhopper_ran ran;
+
+    two_close_the_first_slot(tag_of_zero, tag_of_one);
+    EXPECT(rushhopper_advance_in(&rack, two) == RUSHHOPPER_NOT_BEGUN);
+    EXPECT(rushhopper_hear_in(&rack, two, sent) == RUSHHOPPER_ACCEPTED);
+    EXPECT(rushhopper_hear_in(&rack, two, sent) == RUSHHOPPER_ALREADY_HEARD);
+    ran = rushhopper_run_on_in(&rack, two);
+    EXPECT(ran.refusal == RUSHHOPPER_ACCEPTED && ran.advances == 1);
+    EXPECT(rushhopper_record_of(&rack, two).slot == 1 && rushhopper_entry_of(&rack, two, first) == entry);
+    EXPECT(rushhopper_record_of(&rack, two).round == RUSHHOPPER_ROUND_IDLE);
+    EXPECT(rushhopper_advance_in(&rack, two) == RUSHHOPPER_NOT_BEGUN);
 }
 
 /* Replica 0's own messages alone are below the quorum of three replicas. */
@@ -257,6 +313,9 @@ int main(void)
     a_crash_marks_its_record();
     readers_stay_in_the_run();
     a_message_is_heard();
+    a_notice_is_refused();
+    a_notice_closes_a_slot(7, 7, 7);
+    a_notice_closes_a_slot(7, 9, 0);
     a_run_on_counts_its_advances();
     a_file_is_played();
     a_player_refuses_what_its_memories_cannot_hold();

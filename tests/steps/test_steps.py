@@ -26,7 +26,7 @@ WORKED_BYTES = bytes.fromhex(
 )
 WORKED_EXPLAINED = """\
 controllers 3 spare 1
-refused 18 13      line 21: advance 0: idle (advance or run on while idle)
+refused 18 13      line 21: advance 0: idle (advance or run on while idle, no notice heard for the next slot)
 refused 20 14      line 24: advance 2: too few heard (below quota; in find, no majority)
 refused 22 18      line 26: hear 0 1 vote 0 1: heard (the receiver has heard it)
 bench 0 lit 1 5
@@ -36,7 +36,8 @@ bench 2 lit 0
 
 TAG_WANTED = "a tag (a number from 0 to 18446744073709551615, or time:number with each from 0 to 4294967295)"
 STEPS_WANTED = "expected opening, submit, relay, begin, hear, advance, crash or run on"
-HEAR_WANTED = "hear wants 5 words (receiver, sender, sort, slot, phase; no phase for a proposal)"
+HEAR_WANTED = "hear wants 5 words (receiver, sender, sort, slot, phase; no phase for a proposal or notice)"
+SORT_WANTED = "hear wants a sort (proposal, state, vote, notice)"
 
 
 def packed(text):
@@ -93,18 +94,22 @@ class Layout(unittest.TestCase):
         self.check("hear 0 1 proposal 2", 4, 0, 1, 1, 2, 0)
         self.check("hear 0 1 state 2 3", 4, 0, 1, 2, 2, 3)
         self.check("hear 0 1 vote 2 3", 4, 0, 1, 3, 2, 3)
+        self.check("hear 2 0 notice 1", 4, 2, 0, 4, 1, 0)
 
     def test_what_the_library_refuses_can_be_written(self):
         self.check("opening 255 255 65 255 65535 65535", 0, 255, 255, 65, 255, 255, 255, 255, 255)
         self.check("hear 9 200 proposal 255 4", 4, 9, 200, 1, 255, 4)
         self.check("hear 0 1 vote 0 0", 4, 0, 1, 3, 0, 0)
+        self.check("hear 9 200 notice 255 1", 4, 9, 200, 4, 255, 1)
         self.check("hear 0 1 0 5 6", 4, 0, 1, 0, 5, 6)
         self.check("hear 0 1 255 5 0", 4, 0, 1, 255, 5, 0)
         self.check("submit 0 0", 1, 0, *[0] * 8)
 
     def test_a_phase_left_out_is_0(self):
-        self.assertEqual(packed("hear 0 1 4 2"), bytes([4, 0, 1, 4, 2, 0]))
+        self.assertEqual(packed("hear 0 1 5 2"), bytes([4, 0, 1, 5, 2, 0]))
         self.assertEqual(packed("hear 0 1 proposal 2 0"), packed("hear 0 1 proposal 2"))
+        self.assertEqual(packed("hear 0 1 notice 2 0"), packed("hear 0 1 notice 2"))
+        self.assertEqual(packed("hear 0 1 4 2"), packed("hear 0 1 notice 2"))
 
     def test_lines(self):
         text = "\ufeff# a comment\r\n\n  begin\t0   # behind a step\r\n#advance 0\n\x0cadvance 1#close"
@@ -156,6 +161,8 @@ class Mistaken(unittest.TestCase):
         self.check("hear 0 1 state 0", f"{HEAR_WANTED}, not 4")
         self.check("hear 0 1 vote 0", f"{HEAR_WANTED}, not 4")
         self.check("hear 0 1 vote 0 1 2", f"{HEAR_WANTED}, not 6")
+        self.check("hear 2 0 notice", f"{HEAR_WANTED}, not 3")
+        self.check("hear 2 0 notice 0 0 0", f"{HEAR_WANTED}, not 6")
 
     def test_numbers(self):
         self.check("begin x", "begin wants a number from 0 to 255 as controller, not 'x'")
@@ -166,15 +173,18 @@ class Mistaken(unittest.TestCase):
         self.check("crash " + "9" * 5000, f"crash wants a number from 0 to 255 as controller, not '{'9' * 5000}'")
         self.check("opening 3 1 2 4 65536 0", "opening wants a number from 0 to 65535 as room, not '65536'")
         self.check("hear 0 1 vote 256 1", "hear wants a number from 0 to 255 as slot, not '256'")
+        self.check("hear 2 0 notice 256", "hear wants a number from 0 to 255 as slot, not '256'")
+        self.check("hear 2 0 notice 0 x", "hear wants a number from 0 to 255 as phase, not 'x'")
 
     def test_tags(self):
         for tag in ("x", "18446744073709551616", "1:", ":1", "1:2:3", "4294967296:0", "0:4294967296", "-5"):
             self.check(f"submit 0 {tag}", f"submit wants {TAG_WANTED}, not '{tag}'")
 
     def test_sorts(self):
-        self.check("hear 0 1 votes 0 1", "hear wants a sort (proposal, state, vote), not 'votes'")
-        self.check("hear 0 1 votes 0", "hear wants a sort (proposal, state, vote), not 'votes'")
-        self.check("hear 0 1 256 0 1", "hear wants a sort (proposal, state, vote), not '256'")
+        self.check("hear 0 1 votes 0 1", f"{SORT_WANTED}, not 'votes'")
+        self.check("hear 0 1 votes 0", f"{SORT_WANTED}, not 'votes'")
+        self.check("hear 0 1 Notice 0", f"{SORT_WANTED}, not 'Notice'")
+        self.check("hear 0 1 256 0 1", f"{SORT_WANTED}, not '256'")
 
     def test_only_a_newline_ends_a_line(self):
         self.assertEqual(mistakes("begin 0 # a\x0cb\x85c\nend"), [f"text:2: no step is called 'end'; {STEPS_WANTED}"])
@@ -207,7 +217,7 @@ class Commands(unittest.TestCase):
 
     def test_mistakes_write_nothing(self):
         path = self.file("session.txt", b"begin 0\nhear 0 1 votes 0 1\n")
-        said = f"{path}:2: hear wants a sort (proposal, state, vote), not 'votes'\n"
+        said = f"{path}:2: {SORT_WANTED}, not 'votes'\n"
         self.assertEqual(command("pack", path), (1, b"", said))
         self.assertEqual(command("explain", path, "-"), (1, b"", said))
         status, written, said = command("pack", "-", given=b"begin")

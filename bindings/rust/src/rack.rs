@@ -11,12 +11,14 @@ pub struct Rack {
     memories: Memories,
 }
 
-/// What a message is about; with its sender it is a single one.
+/// What a message is about; with its sender it is a single one. A notice says the entry of a slot that its sender has
+/// closed; closing sends it.
 #[derive(Clone, Copy, Debug, PartialEq, Eq, Hash)]
 pub enum Message {
     Proposal(Slot),
     State(Slot, Phase),
     Vote(Slot, Phase),
+    Notice(Slot),
 }
 
 /// The round that a replica is in, and the phase where it counts.
@@ -76,8 +78,9 @@ impl Rack {
         self.memories.hear(self.numbers, receiver, message.sent_by(sender))
     }
 
-    /// One step by the round that the replica is in: it sends its next message, closes the slot or enters the find
-    /// round.
+    /// A replica that has heard a notice of its current slot, idle or in any round, closes the slot with that entry; of
+    /// several notices the lowest sender's counts. Else one step by the round that it is in: it sends its next message,
+    /// closes the slot or enters the find round.
     pub fn advance(&mut self, who: Replica) -> Result<(), Refusal> {
         self.memories.advance(self.numbers, who)
     }
@@ -133,12 +136,13 @@ impl Rack {
 }
 
 impl Message {
-    /// As the library takes it; a proposal's phase is 0.
+    /// As the library takes it; the phase of a proposal or notice is 0.
     fn sent_by(self, sender: Replica) -> Sent {
         let (sort, slot, phase) = match self {
             Message::Proposal(slot) => (1, slot, Phase(0)),
             Message::State(slot, phase) => (2, slot, phase),
             Message::Vote(slot, phase) => (3, slot, phase),
+            Message::Notice(slot) => (4, slot, Phase(0)),
         };
         Sent { sort, slot, phase, sender }
     }

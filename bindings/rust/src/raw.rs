@@ -119,7 +119,7 @@ impl Memories {
     pub fn for_runs_of(most: Numbers) -> Memories {
         let numbers @ Numbers { n, slots, phases, .. } = most.of_memories();
         Memories {
-            words: vec![0; RECORDS + 4 * n + numbers.room + slots * (2 * phases + 1) * n],
+            words: vec![0; RECORDS + 4 * n + numbers.room + slots * (2 * phases + 2) * n],
             orders: vec![0; numbers.logs_start() + n * slots],
             ballots: vec![0; slots * 2 * phases * n],
             strip: vec![0; slots * phases],

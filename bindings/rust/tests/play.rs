@@ -19,6 +19,15 @@ fn nothing_and_what_is_no_record() {
     assert_eq!(play(&[3, 0, 1, 0]), "refused 1 21\nrefused 2 20\n");
 }
 
+/// A replica asks for its own notice of a slot that it has not closed; then with a phase, and for a sort behind it.
+#[test]
+fn notices_have_phase_0() {
+    let opening = [0, 1, 0, 1, 1, 1, 0, 0, 0];
+    let file = [&opening[..], &[4, 0, 0, 4, 0, 0], &[4, 0, 0, 4, 0, 1], &[4, 0, 0, 5, 0, 1]].concat();
+    let refused = "refused 2 17\nrefused 3 16\nrefused 4 16\n";
+    assert_eq!(play(&file), format!("controllers 1 spare 0\n{refused}bench 0 lit 0\n"));
+}
+
 /// 17 slots of one phase would fit the memories of the rehearsal program, but it has 16.
 #[test]
 fn larger_openings() {

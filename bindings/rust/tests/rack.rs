@@ -38,6 +38,15 @@ fn proposed() -> Rack {
     rack
 }
 
+/// Replicas 0 and 1 have closed slot 0 with 5 in phase 1, and 2 has gone on to phase 2 alone.
+fn left_behind() -> Rack {
+    let mut rack = proposed();
+    for message in [Message::Proposal(FIRST), state(1), vote(1)] {
+        round(&mut rack, message, &[(0, 1), (1, 0), (2, 0)]);
+    }
+    rack
+}
+
 #[test]
 fn openings() {
     assert_eq!(Rack::open(plan(4, 2, 1)), Err(Refusal::BadPlan));
@@ -128,6 +137,63 @@ fn the_find_round_waits_for_a_majority() {
     assert_eq!(rack.log(Replica(2)), [5]);
     assert_eq!(rack.begin(Replica(0)), Err(Refusal::NothingPending));
     assert_eq!(rack.begin(Replica(2)), Ok(()));
+}
+
+#[test]
+fn a_replica_left_behind_closes_by_a_notice() {
+    let mut rack = left_behind();
+    let waiting = Record { crashed: false, round: Round::State(Phase(2)), slot: FIRST };
+    assert_eq!(rack.record(Replica(2)), Some(waiting));
+    assert_eq!(rack.advance(Replica(2)), Err(Refusal::TooFewHeard));
+    assert_eq!(rack.hear(Replica(2), Replica(0), state(2)), Err(Refusal::NotSent));
+    assert_eq!(rack.hear(Replica(2), Replica(0), Message::Notice(FIRST)), Ok(()));
+    assert_eq!(rack.advance(Replica(2)), Ok(()));
+    let closed = Record { round: Round::Idle, slot: Slot(1), ..waiting };
+    assert_eq!((rack.record(Replica(2)), rack.log(Replica(2))), (Some(closed), &[5][..]));
+    assert_eq!(rack.advance(Replica(2)), Err(Refusal::NotBegun));
+    assert_eq!(rack.hear(Replica(0), Replica(2), Message::Notice(FIRST)), Ok(()));
+    assert_eq!(rack.advance(Replica(0)), Err(Refusal::NotBegun));
+}
+
+#[test]
+fn refused_notices_change_nothing() {
+    let mut rack = left_behind();
+    assert_eq!(rack.hear(Replica(2), Replica(1), Message::Notice(FIRST)), Ok(()));
+    let before = rack.clone();
+    let mut hear =
+        |receiver, sender, slot| rack.hear(Replica(receiver), Replica(sender), Message::Notice(slot));
+    assert_eq!(hear(2, 3, FIRST), Err(Refusal::NoSuchReplica));
+    assert_eq!(hear(2, 1, Slot(2)), Err(Refusal::NoSuchMessage));
+    assert_eq!(hear(2, 1, Slot(1)), Err(Refusal::NotSent));
+    assert_eq!(hear(0, 2, FIRST), Err(Refusal::NotSent));
+    assert_eq!(hear(2, 2, FIRST), Err(Refusal::NotSent));
+    assert_eq!(hear(2, 1, FIRST), Err(Refusal::AlreadyHeard));
+    assert_eq!(hear(1, 1, FIRST), Err(Refusal::AlreadyHeard));
+    assert_eq!(rack, before);
+}
+
+/// Replicas 0 and 1 propose different tags and close slot 0 as empty. Replica 2 is told while idle, and may begin first.
+#[test]
+fn an_empty_slot_has_a_notice() {
+    for begins in [false, true] {
+        let mut rack = Rack::open(plan(3, 1, 2)).expect("a plan within the limits");
+        for (who, tag) in [(0, 5), (1, 9)] {
+            assert_eq!(rack.submit(Replica(who), tag), Ok(()));
+            assert_eq!(rack.begin(Replica(who)), Ok(()));
+        }
+        for message in [Message::Proposal(FIRST), state(1), vote(1)] {
+            round(&mut rack, message, &[(0, 1), (1, 0)]);
+        }
+        assert_eq!(rack.crash(Replica(1)), Ok(()));
+        assert_eq!(rack.run_on(Replica(2)), Err(Refusal::NotBegun));
+        assert_eq!(rack.hear(Replica(2), Replica(1), Message::Notice(FIRST)), Ok(()));
+        if begins {
+            assert_eq!(rack.submit(Replica(2), 7), Ok(()));
+            assert_eq!(rack.begin(Replica(2)), Ok(()));
+        }
+        assert_eq!(rack.run_on(Replica(2)), Ok(1));
+        assert_eq!(rack.log(Replica(2)), [0]);
+    }
 }
 
 /// All vote `?` in phase 1; entry 0 of the coin table is 1, entry 9 is 0.
