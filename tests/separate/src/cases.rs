@@ -1,11 +1,11 @@
 //! What the benchmark measures: each call on the memories of a scripted run.
 
 use crate::call::{Call, Done};
-use crate::memories::{Memories, ONE, ZERO};
+use crate::memories::{Memories, FIND, IDLE, ONE, STATE, ZERO};
 use crate::numbers::{Numbers, Sort};
 use crate::refusal::Refusal;
 use crate::rules::{Advanced, Ran, Stop, Submitted};
-use crate::script::{order, Fill, Script};
+use crate::script::{order, Fill, Script, ROUNDS};
 
 pub enum Work {
     FillStrip {
@@ -48,8 +48,9 @@ impl Kind {
     }
 
     pub fn case(&self, numbers: &Numbers, fill: Fill) -> Case {
-        let (Script { memories, .. }, work) = (self.prepare)(numbers, fill);
+        let (Script { memories, refused, .. }, work) = (self.prepare)(numbers, fill);
         let name = format!("{}, {numbers:?}, {fill:?}", self.name);
+        assert_eq!(refused, None, "{name}");
         Case { name, numbers: *numbers, memories, work, does: self.does }
     }
 }
@@ -64,7 +65,7 @@ const fn kind(
 }
 
 /// The refused submit shows what a step costs before its own rule: the boundary and refusals 3, 2, 4, 5.
-pub static KINDS: [Kind; 19] = [
+pub static KINDS: [Kind; 22] = [
     kind("fill-strip", "fill_strip", fill_strip, |_| true),
     kind("open", "open", open, |did| matches!(did, Ok(Done::Opened(_)))),
     kind("submit-blank", "submit, blank tag (refused)", submit_blank, |did| *did == Err(Refusal::BlankTag)),
@@ -77,6 +78,7 @@ pub static KINDS: [Kind; 19] = [
     kind("hear-proposal", "hear, proposal", hear_proposal, |did| *did == Ok(Done::Heard)),
     kind("hear-state", "hear, state", hear_state, |did| *did == Ok(Done::Heard)),
     kind("hear-vote", "hear, vote", hear_vote, |did| *did == Ok(Done::Heard)),
+    kind("hear-notice", "hear, notice", hear_notice, |did| *did == Ok(Done::Heard)),
     kind("exchange", "advance, exchange, one tag heard", exchange, |did| {
         *did == Ok(Done::Advanced(Advanced::Exchanged(ONE)))
     }),
@@ -91,8 +93,14 @@ pub static KINDS: [Kind; 19] = [
         matches!(did, Ok(Done::Advanced(Advanced::NextByCoin(_))))
     }),
     kind("find", "advance, find round", find, |did| matches!(did, Ok(Done::Advanced(Advanced::Found(_))))),
+    kind("notice-idle", "advance, by notice, idle", notice_idle, |did| {
+        matches!(did, Ok(Done::Advanced(Advanced::ByNotice { round: IDLE, .. })))
+    }),
+    kind("notice-state", "advance, by notice, state round", notice_state, |did| {
+        matches!(did, Ok(Done::Advanced(Advanced::ByNotice { round: STATE, .. })))
+    }),
     kind("run-on", "run on, a whole slot", run_on, |did| {
-        *did == Ok(Done::RanOn(Ran { advances: 3, stop: Stop::Closed }))
+        matches!(did, Ok(Done::RanOn(Ran { advances: 3, stop: Stop::Closed(_) })))
     }),
     kind("crash", "crash", crash, |_| true),
     kind("play", "play, the step file of such a run", play, |_| true),
@@ -149,6 +157,39 @@ fn hear_vote(numbers: &Numbers, fill: Fill) -> (Script, Work) {
     hear(numbers, fill, Sort::Vote)
 }
 
+fn hear_notice(numbers: &Numbers, fill: Fill) -> (Script, Work) {
+    let script = left_idle(numbers, fill);
+    let call = script.hearing(0, 1, Sort::Notice);
+    (script, Work::Call(call))
+}
+
+/// The others close a slot in which replica 0 has not begun.
+fn left_idle(numbers: &Numbers, fill: Fill) -> Script {
+    let mut script = Script::filled(numbers, fill);
+    script.begin(1..numbers.n);
+    script.go_on(1..numbers.n, &ROUNDS);
+    script
+}
+
+/// Replica 0 has heard the highest sender's notice alone, so that an advance looks at every sender's.
+fn by_notice(mut script: Script) -> (Script, Work) {
+    let last = script.numbers.n - 1;
+    script.hear(0, [last], Sort::Notice);
+    (script, Work::Call(Call::Advance { who: 0 }))
+}
+
+fn notice_idle(numbers: &Numbers, fill: Fill) -> (Script, Work) {
+    by_notice(left_idle(numbers, fill))
+}
+
+/// The others close without replica 0, which sends its state and hears no other.
+fn notice_state(numbers: &Numbers, fill: Fill) -> (Script, Work) {
+    let mut script = Script::filled(numbers, fill);
+    script.send_up_to(Sort::State);
+    script.go_on(1..numbers.n, &[Sort::State, Sort::Vote]);
+    by_notice(script)
+}
+
 /// Replica 0 advances with all n messages of the sort heard.
 fn advance_on(mut script: Script, sort: Sort) -> (Script, Work) {
     script.send_up_to(sort);
@@ -180,7 +221,7 @@ fn vote_coin(numbers: &Numbers, fill: Fill) -> (Script, Work) {
     let (n, others) = (numbers.n, numbers.quorum() - 1);
     let mut script = Script::filled(numbers, fill);
     script.share_in_camps();
-    script.begin();
+    script.begin(0..n);
     script.hear(0, 1..=others, Sort::Proposal);
     for who in 1..n {
         script.hear(who, (0..n).rev().filter(|&sender| sender != who).take(others), Sort::Proposal);
@@ -194,21 +235,13 @@ fn vote_coin(numbers: &Numbers, fill: Fill) -> (Script, Work) {
     (script, Work::Call(Call::Advance { who: 0 }))
 }
 
-/// The larger camp decides on 1; the last replica learns of it from states and votes, and of the tag only later.
+/// The last replica learns of the outcome from states and votes, and of the tag only later.
 fn find(numbers: &Numbers, fill: Fill) -> (Script, Work) {
-    let (camp, last) = (0..numbers.majority(), numbers.n - 1);
+    let last = numbers.n - 1;
     let mut script = Script::filled(numbers, fill);
     script.share_in_camps();
-    script.begin();
-    camp.clone().for_each(|who| script.hear(who, camp.clone(), Sort::Proposal));
-    let late = last + 1 - numbers.quorum();
-    script.hear(last, late..last, Sort::Proposal);
-    script.advance(camp.clone().chain([last]));
-    camp.clone().chain([last]).for_each(|who| script.hear(who, camp.clone(), Sort::State));
-    script.advance(camp.clone().chain([last]));
-    script.hear(last, camp, Sort::Vote);
-    script.advance([last]);
-    script.hear(last, 0..late, Sort::Proposal);
+    script.leave_in(FIND);
+    script.hear(last, 0..numbers.n - numbers.quorum(), Sort::Proposal);
     (script, Work::Call(Call::Advance { who: last }))
 }
 
@@ -216,12 +249,9 @@ fn find(numbers: &Numbers, fill: Fill) -> (Script, Work) {
 fn run_on(numbers: &Numbers, fill: Fill) -> (Script, Work) {
     let others = 1..numbers.n;
     let mut script = Script::filled(numbers, fill);
-    script.begin();
-    for sort in [Sort::Proposal, Sort::State] {
-        others.clone().for_each(|who| script.hear(who, others.clone(), sort));
-        script.advance(others.clone());
-    }
-    for sort in [Sort::Proposal, Sort::State, Sort::Vote] {
+    script.begin(0..numbers.n);
+    script.go_on(others.clone(), &[Sort::Proposal, Sort::State]);
+    for sort in ROUNDS {
         script.hear(0, others.clone(), sort);
     }
     (script, Work::Call(Call::RunOn { who: 0 }))

@@ -1,5 +1,7 @@
 //! Document 01's check points C1 to C10, "Further" and its worked session, and refusals 3 and 2 of short memories; C11
-//! stands beside the coin table.
+//! stands beside the coin table. Those of document 02 stand in a file of their own.
+
+mod notices;
 
 use crate::call::{Call, Done};
 use crate::memories::{bit, Memories, Record, EXCHANGE, IDLE, ONE, STATE, UNDECIDED, VOTE, ZERO};
@@ -67,7 +69,10 @@ fn c1_by_run_on() {
     let (numbers, mut memories) = opened(1, 0);
     assert_eq!(rules::submit(&numbers, 0, 7, &mut memories), Ok(rules::Submitted::New));
     assert_eq!(rules::begin(&numbers, 0, &mut memories), Ok(7));
-    assert_eq!(rules::run_on(&numbers, 0, &mut memories), Ok(Ran { advances: 3, stop: Stop::Closed }));
+    assert_eq!(
+        rules::run_on(&numbers, 0, &mut memories),
+        Ok(Ran { advances: 3, stop: Stop::Closed(Advanced::ClosedWith(7)) })
+    );
 }
 
 #[test]

@@ -1,12 +1,12 @@
 //! Memories that no run leaves behind: junk, bits of replicas that are not there, spoiled records, memories that are short.
 
 use crate::memories::{bit, Memories, Record, IDLE, STATE, UNDECIDED, VOTE};
-use crate::numbers::{Numbers, RECORDS};
+use crate::numbers::{Message, Numbers, Sort, RECORDS};
 use crate::random::Random;
 
 pub type Damage = fn(&mut Random, &Numbers, &mut Memories);
 
-pub const DAMAGES: [(&str, Damage); 36] = [
+pub const DAMAGES: [(&str, Damage); 41] = [
     ("mask bits of n and above, holders", |random, numbers, memories| {
         holders(numbers, memories).iter_mut().for_each(|mask| *mask |= bits_above(random, numbers));
     }),
@@ -34,6 +34,30 @@ pub const DAMAGES: [(&str, Damage); 36] = [
         heard(numbers, memories).fill(u16::MAX);
         scatter(random, &mut memories.ballots, |random| random.pick(&[0, 4, 128, u8::MAX]));
         scatter(random, proposals(numbers, memories), |_| 0);
+    }),
+    ("junk in the marks of notices", |random, numbers, memories| {
+        mark_notices(numbers, memories, || random.word() as u16);
+    }),
+    ("heard marks on notices that were not sent", |_, numbers, memories| {
+        mark_notices(numbers, memories, || u16::MAX);
+    }),
+    ("notices that differ", |random, numbers, memories| {
+        mark_notices(numbers, memories, || random.word() as u16 | random.word() as u16);
+        scatter(random, logs(numbers, memories), |random| random.below(4) as u64);
+        for _ in 0..numbers.n.div_ceil(2) {
+            let slot = random.between(1, numbers.slots) as u16;
+            spoil(random, numbers, memories, |record| Record { round: IDLE, slot, ..record });
+        }
+    }),
+    ("a replica far ahead", |random, numbers, memories| {
+        mark_notices(numbers, memories, || random.word() as u16);
+        scatter(random, logs(numbers, memories), Random::word);
+        let slot = numbers.slots as u16;
+        spoil(random, numbers, memories, |record| Record { round: IDLE, slot, ..record });
+    }),
+    ("closed slots taken back", |random, numbers, memories| {
+        scatter(random, logs(numbers, memories), |random| random.below(8) as u64);
+        spoil(random, numbers, memories, |record| Record { slot: 0, ..record });
     }),
     ("proposals taken back", |random, numbers, memories| {
         scatter(random, proposals(numbers, memories), |_| 0);
@@ -160,6 +184,14 @@ fn holders<'a>(numbers: &Numbers, memories: &'a mut Memories) -> &'a mut [u16] {
 /// With the words behind the run's part, if there are any.
 fn heard<'a>(numbers: &Numbers, memories: &'a mut Memories) -> &'a mut [u16] {
     section(&mut memories.words, numbers.heard_start(), usize::MAX)
+}
+
+/// Draws the marks anew of every notice that the words have room for.
+fn mark_notices(numbers: &Numbers, memories: &mut Memories, mut draw: impl FnMut() -> u16) {
+    for slot in 0..numbers.slots {
+        let first = numbers.heard_cell(Message { sort: Sort::Notice, slot, phase: 0 }, 0);
+        section(&mut memories.words, first, first + numbers.n).fill_with(&mut draw);
+    }
 }
 
 fn tags<'a>(numbers: &Numbers, memories: &'a mut Memories) -> &'a mut [u64] {

@@ -3,12 +3,13 @@
 
 use crate::call::Call;
 use crate::coin::PATTERN;
-use crate::memories::{Memories, IDLE};
+use crate::memories::{Memories, FIND, IDLE};
 use crate::numbers::{
     Message, Numbers, Sort, MOST_PHASES, MOST_REPLICAS, MOST_ROOM, MOST_SLOTS, USUAL_PHASES,
 };
 use crate::random::Random;
 use crate::rules;
+use crate::script::{order, Script, ROUNDS};
 use crate::step_file::{body_length, write_record, REHEARSAL_BYTES};
 
 /// What differs from one session to the next, so that agreement, quarrel, crashes and stragglers all occur.
@@ -25,6 +26,16 @@ pub struct Habits {
     straggler: usize,
     /// The odds of hearing what the replica does not wait for.
     stray_odds: usize,
+    /// The odds of listening for notices: where they are heard at once, few replicas go through all rounds, and a
+    /// straggler never runs on far.
+    notice_odds: usize,
+}
+
+/// Which of the messages of its slot a replica listens for.
+enum Listening {
+    ToAwaited,
+    ToNotices,
+    ToAllButNotices,
 }
 
 impl Habits {
@@ -37,6 +48,17 @@ impl Habits {
             crash_odds: random.pick(&[50, 500, usize::MAX, usize::MAX]),
             straggler: random.below(2 * n),
             stray_odds: random.pick(&[1, 4, 40]),
+            notice_odds: random.pick(&[2, 6, 30, usize::MAX, usize::MAX]),
+        }
+    }
+
+    fn listening(&self, random: &mut Random, straggles: bool) -> Listening {
+        if random.one_in(self.notice_odds) && (!straggles || random.one_in(8)) {
+            Listening::ToNotices
+        } else if straggles || random.one_in(self.stray_odds) {
+            Listening::ToAllButNotices
+        } else {
+            Listening::ToAwaited
         }
     }
 
@@ -114,18 +136,20 @@ fn drawn_call(random: &mut Random, numbers: &Numbers, habits: &Habits, memories:
         0 if idle => Call::Submit { who, tag },
         1 if idle => Call::Relay { who, tag },
         2 | 3 if idle => Call::Begin { who },
+        4 if idle => random.pick(&[Call::Advance { who }, Call::RunOn { who }]),
+        5 if idle && random.one_in(4) => any_hear(random, numbers, habits, who, memories),
         0 if !straggles => Call::Advance { who },
-        1 if !straggles || random.one_in(24) => Call::RunOn { who },
-        2 if random.one_in(2) => any_hear(random, numbers, who, memories),
+        1 if !straggles || random.one_in(12) => Call::RunOn { who },
+        2 if random.one_in(2) => any_hear(random, numbers, habits, who, memories),
         3..6 if habits.hasty && !straggles && !idle => Call::Advance { who },
         _ => {
-            let narrow = !straggles && !random.one_in(habits.stray_odds);
+            let listening = habits.listening(random, straggles);
             let other = match (idle, straggles) {
                 (true, _) => Call::Submit { who, tag },
-                (false, true) => any_hear(random, numbers, who, memories),
+                (false, true) => any_hear(random, numbers, habits, who, memories),
                 (false, false) => Call::Advance { who },
             };
-            unheard(random, numbers, who, narrow, memories).unwrap_or(other)
+            unheard(random, numbers, who, listening, memories).unwrap_or(other)
         }
     }
 }
@@ -137,13 +161,12 @@ fn crashed(numbers: &Numbers, memories: &Memories) -> usize {
         .count()
 }
 
-/// One of the messages of the receiver's slot that were sent and that it has not heard; if `narrow`, one that its
-/// round waits for.
+/// One of the messages of the receiver's slot that were sent, that it has not heard and that it listens for.
 fn unheard(
     random: &mut Random,
     numbers: &Numbers,
     receiver: usize,
-    narrow: bool,
+    listening: Listening,
     memories: &Memories,
 ) -> Option<Call> {
     let record = memories.record(receiver)?;
@@ -153,9 +176,14 @@ fn unheard(
     }
     let ballots = (1..=numbers.phases).flat_map(|phase| [(Sort::State, phase), (Sort::Vote, phase)]);
     let mut calls = Vec::new();
-    for (sort, phase) in ballots.chain([(Sort::Proposal, 0)]) {
+    for (sort, phase) in ballots.chain([(Sort::Proposal, 0), (Sort::Notice, 0)]) {
         let message = Message { sort, slot, phase };
-        if narrow && message != record.awaited() {
+        let listens = match listening {
+            Listening::ToAwaited => message == record.awaited(),
+            Listening::ToNotices => sort == Sort::Notice,
+            Listening::ToAllButNotices => sort != Sort::Notice,
+        };
+        if !listens {
             continue;
         }
         let wanted = |&sender: &usize| {
@@ -169,13 +197,32 @@ fn unheard(
 }
 
 /// Any message of a low phase, whether it was sent or not, mostly of the receiver's slot.
-fn any_hear(random: &mut Random, numbers: &Numbers, receiver: usize, memories: &Memories) -> Call {
+fn any_hear(
+    random: &mut Random,
+    numbers: &Numbers,
+    habits: &Habits,
+    receiver: usize,
+    memories: &Memories,
+) -> Call {
     let record = memories.record(receiver).unwrap_or_default();
     let sender = random.below(numbers.n);
-    let sort = random.between(1, 3);
+    let sort = if random.one_in(habits.notice_odds) {
+        Sort::Notice
+    } else {
+        random.pick(&[Sort::Proposal, Sort::State, Sort::Vote])
+    };
     let slot = if random.one_in(2) { usize::from(record.slot) } else { random.below(numbers.slots) };
-    let phase = if sort == 1 { 0 } else { random.between(1, numbers.phases.min(3)) };
-    Call::Hear { receiver, sender, sort, slot, phase }
+    let phase = any_phase(random, sort, numbers.phases.min(3));
+    Call::Hear { receiver, sender, sort: sort as usize, slot, phase }
+}
+
+/// A phase that a message of the sort can have, `most` at the most.
+fn any_phase(random: &mut Random, sort: Sort, most: usize) -> usize {
+    if sort.has_phases() {
+        random.between(1, most)
+    } else {
+        0
+    }
 }
 
 /// A call with arguments at, around and far beyond their limits.
@@ -198,13 +245,14 @@ pub fn strange_call(random: &mut Random, numbers: &Numbers) -> Call {
 fn strange_hear(random: &mut Random, numbers: &Numbers, n: usize) -> Call {
     let (slots, phases) = (numbers.slots.clamp(1, MOST_SLOTS), numbers.phases.clamp(1, MOST_PHASES));
     let (mut receiver, mut sender) = (random.below(n.max(1)), random.below(n.max(1)));
-    let mut sort = random.between(1, 3);
+    let drawn = random.pick(&[Sort::Proposal, Sort::State, Sort::Vote, Sort::Notice]);
+    let mut sort = drawn as usize;
     let mut slot = random.below(slots);
-    let mut phase = if sort == 1 { 0 } else { random.between(1, phases) };
+    let mut phase = any_phase(random, drawn, phases);
     match random.below(5) {
         0 => receiver = random.around(n),
         1 => sender = random.around(n),
-        2 => sort = random.around(3),
+        2 => sort = random.around(Sort::Notice as usize),
         3 => slot = random.around(slots),
         _ => phase = random.around(phases),
     }
@@ -236,6 +284,47 @@ pub fn session(random: &mut Random, most: &Numbers) -> Vec<u8> {
     file
 }
 
+/// A session in which a majority closes slots and leaves the last replica behind, in any round; this one then hears
+/// notices. Drawn steps seldom leave a replica in the find round.
+pub fn left_behind_session(random: &mut Random, most: &Numbers) -> Vec<u8> {
+    let n = random.between(3, most.n);
+    let (slots, phases) = (random.between(1, most.slots.min(4)), random.between(1, most.phases.min(4)));
+    let mut script = Script::open(&Numbers { n, f: (n - 1) / 2, slots, phases, room: slots + 1 });
+    script.share_in_camps();
+    script.leave_in(random.between(usize::from(IDLE), usize::from(FIND)) as u16);
+    let camp = script.camp();
+    script.go_on(camp.clone(), &[Sort::Vote]);
+    for further in 1..random.between(1, slots) {
+        script.share(order(further), camp.clone());
+        script.begin(camp.clone());
+        script.go_on(camp.clone(), &ROUNDS);
+    }
+    let mut file = script.file;
+    for _ in 0..random.between(4, 16) {
+        write_record(&mut file, &call_left_behind(random, slots, camp.end, n));
+    }
+    file
+}
+
+/// Of a replica outside the camp, mostly the last. Whether it is accepted is left to the run.
+fn call_left_behind(random: &mut Random, slots: usize, camp: usize, n: usize) -> Call {
+    let who = if random.one_in(4) { random.between(camp, n - 1) } else { n - 1 };
+    let sender = random.below(camp);
+    match random.below(16) {
+        0 => Call::Crash { who: sender },
+        1 => Call::Begin { who },
+        2..5 => Call::Advance { who },
+        5..8 => Call::RunOn { who },
+        _ => Call::Hear {
+            receiver: who,
+            sender,
+            sort: Sort::Notice as usize,
+            slot: random.below(slots),
+            phase: 0,
+        },
+    }
+}
+
 /// Random records, most of them after an opening.
 pub fn wild_session(random: &mut Random, most: &Numbers) -> Vec<u8> {
     let mut file = Vec::new();
@@ -247,7 +336,7 @@ pub fn wild_session(random: &mut Random, most: &Numbers) -> Vec<u8> {
         let kind = if random.one_in(200) { random.below(256) } else { random.below(8) };
         file.push(kind as u8);
         for _ in 0..body_length(kind as u8).unwrap_or(3) {
-            let byte = if random.one_in(6) { random.below(256) } else { random.below(4) };
+            let byte = if random.one_in(6) { random.below(256) } else { random.below(5) };
             file.push(byte as u8);
         }
     }

@@ -1,5 +1,5 @@
-//! Document 01's order log, written from the document and apart from the library, and what compares the two: by
-//! whole step files (the program `sessions`) and by direct calls on ordinary and damaged memories (`calls`), and in time
+//! Document 01's order log with request 1 of document 02, written from the documents and apart from the library, and what
+//! compares the two: by whole step files (the program `sessions`) and by direct calls on ordinary and damaged memories (`calls`), and in time
 //! (`bench`).
 
 #[cfg(feature = "library")]
@@ -16,6 +16,7 @@ pub mod generate;
 #[cfg(feature = "library")]
 pub mod library;
 pub mod memories;
+pub mod notices;
 pub mod numbers;
 pub mod options;
 pub mod random;

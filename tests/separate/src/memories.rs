@@ -177,6 +177,7 @@ impl Memories {
             Sort::Vote => {
                 matches!(self.ballots[numbers.ballot_cell(message, sender)], ZERO | ONE | UNDECIDED)
             }
+            Sort::Notice => self.record(sender).is_some_and(|record| usize::from(record.slot) > message.slot),
         }
     }
 
@@ -200,6 +201,29 @@ impl Memories {
     pub fn send_ballot(&mut self, numbers: &Numbers, message: Message, sender: usize, word: u8) {
         self.ballots[numbers.ballot_cell(message, sender)] = word;
         self.words[numbers.heard_cell(message, sender)] = bit(sender);
+    }
+
+    /// As `send_proposal`, for a notice. It says the entry of the log, and its sender's record tells that it was sent: by a
+    /// slot above this one.
+    pub fn send_notice(&mut self, numbers: &Numbers, slot: usize, sender: usize, entry: u64) {
+        let message = Message { sort: Sort::Notice, slot, phase: 0 };
+        self.orders[numbers.log_cell(sender, slot)] = entry;
+        self.words[numbers.heard_cell(message, sender)] = bit(sender);
+    }
+
+    /// The entries of the notices of a slot that a replica has heard, the lowest sender's first; a mark on a notice that
+    /// was not sent is passed over. No record lies above the last slot, so none is found for what comes behind it.
+    pub fn heard_notices<'a>(
+        &'a self,
+        numbers: &'a Numbers,
+        slot: usize,
+        receiver: usize,
+    ) -> impl Iterator<Item = u64> + Clone + 'a {
+        let message = Message { sort: Sort::Notice, slot, phase: 0 };
+        (0..numbers.n)
+            .filter(move |&sender| self.was_sent(numbers, message, sender))
+            .filter(move |&sender| self.was_heard(numbers, message, sender, receiver))
+            .map(move |sender| self.orders[numbers.log_cell(sender, slot)])
     }
 
     /// The tags of the proposals of a slot that a replica has heard, also those that came late.

@@ -37,15 +37,16 @@ pub struct Lengths {
     pub strip: usize,
 }
 
-/// The three sorts of messages.
+/// The sorts of messages. By a notice a replica tells the entry of a slot that it has closed.
 #[derive(Clone, Copy, Debug, PartialEq, Eq)]
 pub enum Sort {
     Proposal = 1,
     State,
     Vote,
+    Notice,
 }
 
-/// What a message is about; with its sender it is a single one. A proposal's phase is 0.
+/// What a message is about; with its sender it is a single one. A proposal's and a notice's phase is 0.
 #[derive(Clone, Copy, PartialEq, Eq)]
 pub struct Message {
     pub sort: Sort,
@@ -76,7 +77,7 @@ impl Numbers {
     /// Only for numbers within the limits; larger ones could wrap.
     pub fn lengths(&self) -> Lengths {
         Lengths {
-            words: self.heard_start() + self.slots * (2 * self.phases + 1) * self.n,
+            words: self.heard_start() + self.slots * (2 * self.phases + 2) * self.n,
             orders: self.logs_start() + self.n * self.slots,
             ballots: self.slots * 2 * self.phases * self.n,
             strip: self.slots * self.phases,
@@ -110,7 +111,7 @@ impl Numbers {
 
     /// In the words: the mask of those who have heard the message.
     pub fn heard_cell(&self, message: Message, sender: usize) -> usize {
-        self.heard_start() + (message.slot * (2 * self.phases + 1) + message.row()) * self.n + sender
+        self.heard_start() + (message.slot * (2 * self.phases + 2) + message.row()) * self.n + sender
     }
 
     /// In the orders.
@@ -123,13 +124,31 @@ impl Numbers {
         self.logs_start() + replica * self.slots + slot
     }
 
-    /// Of a state or vote. Proposals stand elsewhere, so the rows start one lower than those of the heard masks.
+    /// Of a state or vote. Proposals and notices stand elsewhere, so the rows start two lower than those of the heard masks.
     pub fn ballot_cell(&self, message: Message, sender: usize) -> usize {
-        (message.slot * 2 * self.phases + message.row() - 1) * self.n + sender
+        (message.slot * 2 * self.phases + message.row() - 2) * self.n + sender
     }
 
     pub fn coin_cell(&self, slot: usize, phase: usize) -> usize {
         slot * self.phases + phase - 1
+    }
+}
+
+impl Sort {
+    /// The sort that a hear names by a number.
+    pub fn numbered(number: usize) -> Option<Sort> {
+        match number {
+            1 => Some(Sort::Proposal),
+            2 => Some(Sort::State),
+            3 => Some(Sort::Vote),
+            4 => Some(Sort::Notice),
+            _ => None,
+        }
+    }
+
+    /// Whether its messages belong to a phase, from 1 on. There is one proposal and one notice for a whole slot.
+    pub fn has_phases(self) -> bool {
+        matches!(self, Sort::State | Sort::Vote)
     }
 }
 
@@ -138,8 +157,9 @@ impl Message {
     fn row(&self) -> usize {
         match self.sort {
             Sort::Proposal => 0,
-            Sort::State => 2 * self.phase - 1,
-            Sort::Vote => 2 * self.phase,
+            Sort::Notice => 1,
+            Sort::State => 2 * self.phase,
+            Sort::Vote => 2 * self.phase + 1,
         }
     }
 }
@@ -150,19 +170,23 @@ mod tests {
 
     const NUMBERS: Numbers = Numbers { n: 3, f: 1, slots: 2, phases: 4, room: 5 };
 
-    /// Counted out by hand: 1 + 12 + 5 + 54 words, 5 + 6 + 6 orders, 48 ballots, 8 coins.
+    /// Counted out by hand: 1 + 12 + 5 + 60 words, 5 + 6 + 6 orders, 48 ballots, 8 coins.
     #[test]
     fn lengths_of_a_small_run() {
         let Lengths { words, orders, ballots, strip } = NUMBERS.lengths();
-        assert_eq!((words, orders, ballots, strip), (72, 17, 48, 8));
+        assert_eq!((words, orders, ballots, strip), (78, 17, 48, 8));
     }
 
     #[test]
     fn sections_stand_one_behind_the_other() {
-        let vote = Message { sort: Sort::Vote, slot: 1, phase: 4 };
+        let message = |sort, slot, phase| Message { sort, slot, phase };
+        let (state, vote) = (message(Sort::State, 0, 1), message(Sort::Vote, 1, 4));
         assert_eq!((NUMBERS.holder_cell(0), NUMBERS.holder_cell(4)), (13, 17));
-        assert_eq!(NUMBERS.heard_cell(Message { sort: Sort::Proposal, slot: 0, phase: 0 }, 0), 18);
-        assert_eq!((NUMBERS.heard_cell(vote, 2), NUMBERS.ballot_cell(vote, 2)), (71, 47));
+        assert_eq!(NUMBERS.heard_cell(message(Sort::Proposal, 0, 0), 0), 18);
+        assert_eq!(NUMBERS.heard_cell(message(Sort::Notice, 0, 0), 0), 21);
+        assert_eq!(NUMBERS.heard_cell(message(Sort::Notice, 1, 0), 2), 53);
+        assert_eq!((NUMBERS.heard_cell(state, 0), NUMBERS.ballot_cell(state, 0)), (24, 0));
+        assert_eq!((NUMBERS.heard_cell(vote, 2), NUMBERS.ballot_cell(vote, 2)), (77, 47));
         assert_eq!((NUMBERS.proposal_cell(0, 0), NUMBERS.proposal_cell(1, 2)), (5, 10));
         assert_eq!((NUMBERS.log_cell(0, 0), NUMBERS.log_cell(2, 1)), (11, 16));
         assert_eq!((NUMBERS.coin_cell(0, 1), NUMBERS.coin_cell(1, 4)), (0, 7));

@@ -1,4 +1,4 @@
-//! The calls of document 01 over lent memories. A refused call changes nothing.
+//! The calls of document 01 over lent memories, with the notices of document 02. A refused call changes nothing.
 
 use crate::coin::{self, PATTERN};
 use crate::memories::{bit, Memories, Record, EXCHANGE, FIND, IDLE, ONE, STATE, UNDECIDED, VOTE, ZERO};
@@ -26,12 +26,18 @@ pub enum Advanced {
     EnteredFind,
     /// Closed out of the find round.
     Found(u64),
+    /// Closed out of this round with the entry of a notice.
+    ByNotice {
+        round: u16,
+        entry: u64,
+    },
 }
 
 /// Why a run on stopped.
 #[derive(Clone, Copy, Debug, PartialEq, Eq)]
 pub enum Stop {
-    Closed,
+    /// By this advance.
+    Closed(Advanced),
     Refused(Refusal),
 }
 
@@ -159,19 +165,15 @@ pub fn hear(
     Ok(())
 }
 
-/// The message that the numbers of a hear name: "sort (1 proposal, 2 state, 3 vote), slot, phase (0 for a proposal)".
+/// The message that the numbers of a hear name: "sort (1 proposal, 2 state, 3 vote), slot, phase (0 for a proposal)", and
+/// "sort 4, phase 0".
 fn message(numbers: &Numbers, sort: usize, slot: usize, phase: usize) -> Option<Message> {
-    let sort = match sort {
-        1 => Sort::Proposal,
-        2 => Sort::State,
-        3 => Sort::Vote,
-        _ => return None,
-    };
-    let phases = if sort == Sort::Proposal { 0..=0 } else { 1..=numbers.phases };
+    let sort = Sort::numbered(sort)?;
+    let phases = if sort.has_phases() { 1..=numbers.phases } else { 0..=0 };
     (slot < numbers.slots && phases.contains(&phase)).then_some(Message { sort, slot, phase })
 }
 
-/// One step by the round that the replica is in.
+/// One step by a notice, else by the round that the replica is in.
 pub fn advance(numbers: &Numbers, who: usize, memories: &mut Memories) -> Result<Advanced, Refusal> {
     let record = admit(numbers, &[who], memories)?;
     advance_from(numbers, who, record, memories)
@@ -191,16 +193,35 @@ pub fn run_on(numbers: &Numbers, who: usize, memories: &mut Memories) -> Result<
         }
         advances += 1;
     }
-    Ok(Ran { advances, stop: Stop::Closed })
+    Ok(Ran { advances, stop: Stop::Closed(last) })
 }
 
 impl Advanced {
-    fn closes(self) -> bool {
-        matches!(self, Advanced::ClosedEmpty | Advanced::ClosedWith(_) | Advanced::Found(_))
+    pub fn closes(self) -> bool {
+        matches!(
+            self,
+            Advanced::ClosedEmpty | Advanced::ClosedWith(_) | Advanced::Found(_) | Advanced::ByNotice { .. }
+        )
     }
 }
 
+/// "A controller in that slot, or idle before it, that has heard such a notice closes with that entry at its next advance,
+/// ahead of every other rule; of several notices the lowest sender's counts."
 fn advance_from(
+    numbers: &Numbers,
+    who: usize,
+    record: Record,
+    memories: &mut Memories,
+) -> Result<Advanced, Refusal> {
+    let noticed = memories.heard_notices(numbers, usize::from(record.slot), who).next();
+    if let Some(entry) = noticed {
+        close(numbers, who, record, entry, memories);
+        return Ok(Advanced::ByNotice { round: record.round, entry });
+    }
+    advance_by_round(numbers, who, record, memories)
+}
+
+fn advance_by_round(
     numbers: &Numbers,
     who: usize,
     record: Record,
@@ -321,9 +342,9 @@ fn send_state(numbers: &Numbers, who: usize, record: Record, state: u8, memories
     memories.set_record(who, Record { round: STATE, ..record });
 }
 
-/// The phase stays in the record.
+/// "A controller that closes a slot now sends its entry". The phase stays in the record.
 fn close(numbers: &Numbers, who: usize, record: Record, entry: u64, memories: &mut Memories) {
-    memories.orders[numbers.log_cell(who, usize::from(record.slot))] = entry;
+    memories.send_notice(numbers, usize::from(record.slot), who, entry);
     memories.set_record(who, Record { round: IDLE, slot: record.slot + 1, ..record });
 }
 

@@ -1,9 +1,13 @@
-//! Scripted runs for the benchmark: the same accepted calls every time, kept as memories and as a step file.
+//! Scripted runs, for the benchmark and for step files: the same calls every time, kept as memories and as a step file.
 
 use crate::call::Call;
-use crate::memories::Memories;
+use crate::memories::{Memories, EXCHANGE, FIND, STATE, VOTE};
 use crate::numbers::{Numbers, Sort};
 use crate::step_file::write_record;
+use std::ops::Range;
+
+/// What the rounds of a slot that closes in phase 1 wait for.
+pub const ROUNDS: [Sort; 3] = [Sort::Proposal, Sort::State, Sort::Vote];
 
 /// How far a run has come when a call is measured.
 #[derive(Clone, Copy, Debug, PartialEq, Eq)]
@@ -16,6 +20,8 @@ pub struct Script {
     pub numbers: Numbers,
     pub memories: Memories,
     pub file: Vec<u8>,
+    /// The first call that was refused: it left the script in another state than its name says.
+    pub refused: Option<Call>,
 }
 
 /// "time times 2^32 plus order number", an order a second.
@@ -26,7 +32,7 @@ pub fn order(second: usize) -> u64 {
 impl Script {
     pub fn open(numbers: &Numbers) -> Script {
         let memories = Memories::of_run(numbers);
-        let mut script = Script { numbers: *numbers, memories, file: Vec::new() };
+        let mut script = Script { numbers: *numbers, memories, file: Vec::new(), refused: None };
         script.step(Call::Open { plan: *numbers, start: 0 });
         script
     }
@@ -38,9 +44,8 @@ impl Script {
             script.share(order(second), 0..numbers.n);
         }
         for _ in 0..fill.closed {
-            script.send_up_to(Sort::Vote);
-            script.all_hear(Sort::Vote);
-            script.advance(0..numbers.n);
+            script.begin(0..numbers.n);
+            script.go_on(0..numbers.n, &ROUNDS);
         }
         script
     }
@@ -52,10 +57,10 @@ impl Script {
         script
     }
 
-    /// A refused call would leave the script in another state than its name says.
     fn step(&mut self, call: Call) {
-        let result = call.make(&self.numbers, &mut self.memories);
-        assert!(result.is_ok(), "{call:?} of a script: {result:?}");
+        if call.make(&self.numbers, &mut self.memories).is_err() {
+            self.refused.get_or_insert(call);
+        }
         write_record(&mut self.file, &call);
     }
 
@@ -72,9 +77,9 @@ impl Script {
 
     /// A bare majority proposes one tag and the others another. Both are older than any other tag.
     pub fn share_in_camps(&mut self) {
-        let Numbers { n, .. } = self.numbers;
-        self.share(1, 0..self.numbers.majority());
-        self.share(2, self.numbers.majority()..n);
+        let Range { start, end } = self.camp();
+        self.share(1, start..end);
+        self.share(2, end..self.numbers.n);
     }
 
     /// Each replica proposes another tag.
@@ -82,8 +87,8 @@ impl Script {
         (0..self.numbers.n).for_each(|who| self.share(1 + who as u64, [who]));
     }
 
-    pub fn begin(&mut self) {
-        (0..self.numbers.n).for_each(|who| self.step(Call::Begin { who }));
+    pub fn begin(&mut self, replicas: Range<usize>) {
+        replicas.for_each(|who| self.step(Call::Begin { who }));
     }
 
     pub fn advance(&mut self, replicas: impl IntoIterator<Item = usize>) {
@@ -98,7 +103,7 @@ impl Script {
     }
 
     pub fn hearing(&self, receiver: usize, sender: usize, sort: Sort) -> Call {
-        let phase = usize::from(sort != Sort::Proposal);
+        let phase = usize::from(sort.has_phases());
         Call::Hear { receiver, sender, sort: sort as usize, slot: self.slot(receiver), phase }
     }
 
@@ -107,14 +112,45 @@ impl Script {
         (0..n).for_each(|receiver| self.hear(receiver, 0..n, sort));
     }
 
-    /// All replicas begin a slot and go on until they have sent this sort; all hear everything before it.
-    pub fn send_up_to(&mut self, sort: Sort) {
-        self.begin();
-        for earlier in [Sort::Proposal, Sort::State] {
-            if (earlier as usize) < sort as usize {
-                self.all_hear(earlier);
-                self.advance(0..self.numbers.n);
+    /// For each of the sorts, these replicas hear each other and then advance.
+    pub fn go_on(&mut self, replicas: Range<usize>, sorts: &[Sort]) {
+        for &sort in sorts {
+            replicas.clone().for_each(|receiver| self.hear(receiver, replicas.clone(), sort));
+            self.advance(replicas.clone());
+        }
+    }
+
+    /// The larger camp of those in `share_in_camps`: as many as a quorum where f is the most that n allows.
+    pub fn camp(&self) -> Range<usize> {
+        0..self.numbers.majority()
+    }
+
+    /// The larger camp goes ahead until all of it has voted for 1. The last replica, of the other camp, comes to this round
+    /// and no further: to the find round since it has not heard of the tag often enough.
+    pub fn leave_in(&mut self, round: u16) {
+        let (Numbers { n, .. }, camp, last) = (self.numbers, self.camp(), self.numbers.n - 1);
+        self.begin(0..last);
+        self.go_on(camp.clone(), &[Sort::Proposal]);
+        if round >= EXCHANGE {
+            self.begin(last..n);
+        }
+        if round >= STATE {
+            self.hear(last, n - self.numbers.quorum()..last, Sort::Proposal);
+            self.advance([last]);
+        }
+        self.go_on(camp.clone(), &[Sort::State]);
+        for (later, sort) in [(VOTE, Sort::State), (FIND, Sort::Vote)] {
+            if round >= later {
+                self.hear(last, camp.clone(), sort);
+                self.advance([last]);
             }
         }
+    }
+
+    /// All replicas begin a slot and go on until they have sent this sort; all hear everything before it.
+    pub fn send_up_to(&mut self, sort: Sort) {
+        let Numbers { n, .. } = self.numbers;
+        self.begin(0..n);
+        self.go_on(0..n, &ROUNDS[..sort as usize - 1]);
     }
 }

@@ -26,15 +26,16 @@ pub fn report(input: &[u8]) -> Vec<u8> {
 
 /// Plays a step file on memories for at most the numbers `most`.
 pub fn play(most: &Numbers, file: &[u8], memories: &mut Memories) -> Played {
-    play_seen(most, file, memories, |_, _, _| ())
+    play_seen(most, file, memories, |_, _, _, _| ())
 }
 
-/// As `play`; `seen` is shown each whole record, what came of it and the memories after it.
+/// As `play`; `seen` is shown each whole record, the run's numbers (zeros if none is open), what came of the record and the
+/// memories after it.
 pub fn play_seen(
     most: &Numbers,
     file: &[u8],
     memories: &mut Memories,
-    mut seen: impl FnMut(&Call, &Result<Done, Refusal>, &Memories),
+    mut seen: impl FnMut(&Call, &Numbers, &Result<Done, Refusal>, &Memories),
 ) -> Played {
     let mut played = Played { opened: None, report: Vec::new() };
     let mut place = 0;
@@ -54,7 +55,7 @@ pub fn play_seen(
         if let Err(refusal) = result {
             played.refused(number, refusal);
         }
-        seen(&call, &result, memories);
+        seen(&call, &played.opened.unwrap_or_default(), &result, memories);
     }
     played.benches(memories);
     played

@@ -2,12 +2,14 @@
 
 use crate::call::{Call, Done};
 use crate::memories::{Memories, ONE, UNDECIDED, ZERO};
+use crate::notices;
+use crate::numbers::{Numbers, Sort};
 use crate::refusal::Refusal;
 use crate::rules::{Advanced, Ran, Stop, Submitted};
 use std::collections::BTreeMap;
 use std::process::ExitCode;
 
-/// What a run can meet beside refusals.
+/// What a run can meet beside refusals and notices.
 pub const EVENTS: [&str; 34] = [
     "opened",
     "opened with phases 0",
@@ -76,8 +78,23 @@ impl Tally {
         code
     }
 
-    /// Notes the events of an accepted call; `memories` are those after it.
-    pub fn note_events(&mut self, call: &Call, done: &Done, memories: &Memories) {
+    /// Notes the events of a call by these numbers; `memories` are those after it.
+    pub fn note_events(
+        &mut self,
+        call: &Call,
+        numbers: &Numbers,
+        result: &Result<Done, Refusal>,
+        memories: &Memories,
+    ) {
+        for event in notices::met(call, numbers, result, memories) {
+            self.note(event);
+        }
+        if let Ok(done) = result {
+            self.note_done(call, done, memories);
+        }
+    }
+
+    fn note_done(&mut self, call: &Call, done: &Done, memories: &Memories) {
         match *done {
             Done::Opened(_) => self.note_opening(call),
             Done::Submitted(Submitted::New) => self.note("submitted new"),
@@ -85,7 +102,9 @@ impl Tally {
             Done::Relayed => self.note("relayed"),
             Done::Begun(_) => self.note("proposed"),
             Done::Heard => self.note_hear(call, memories),
-            Done::Advanced(advanced) => self.note(advance_event(advanced)),
+            Done::Advanced(advanced) => {
+                advance_event(advanced).into_iter().for_each(|event| self.note(event))
+            }
             Done::Crashed => self.note("crashed"),
             Done::RanOn(ran) => self.note_run_on(ran),
         }
@@ -102,7 +121,7 @@ impl Tally {
         let lengths = ["run on of 1", "run on of 2", "run on of 3", "run on of 4", "run on of 5 or more"];
         self.note(lengths[ran.advances.min(5) - 1]);
         match ran.stop {
-            Stop::Closed => self.note("run on stopped at a closed slot"),
+            Stop::Closed(_) => self.note("run on stopped at a closed slot"),
             Stop::Refused(Refusal::PhasesUsedUp) => self.note("run on stopped at 15"),
             Stop::Refused(_) => self.note("run on stopped at 14"),
         }
@@ -110,21 +129,23 @@ impl Tally {
 
     fn note_hear(&mut self, call: &Call, memories: &Memories) {
         let Call::Hear { receiver, sender, sort, slot, phase } = *call else { return };
-        self.note(["heard proposal", "heard state", "heard vote"][sort - 1]);
+        let Some(sort) = Sort::numbered(sort) else { return };
+        self.note(["heard proposal", "heard state", "heard vote", "heard notice"][sort as usize - 1]);
         let record = |replica| memories.record(replica).unwrap_or_default();
         if record(sender).crashed != 0 {
             self.note("heard from a crashed sender");
         }
         if usize::from(record(receiver).slot) != slot {
             self.note("heard for another slot");
-        } else if sort != 1 && usize::from(record(receiver).phase) != phase {
+        } else if sort.has_phases() && usize::from(record(receiver).phase) != phase {
             self.note("heard for another phase");
         }
     }
 }
 
-fn advance_event(advanced: Advanced) -> &'static str {
-    match advanced {
+/// Of an advance by a round; a notice has its own events.
+fn advance_event(advanced: Advanced) -> Option<&'static str> {
+    Some(match advanced {
         Advanced::Exchanged(ONE) => "exchange gave 1",
         Advanced::Exchanged(_) => "exchange gave 0",
         Advanced::Voted(UNDECIDED) => "voted ?",
@@ -138,5 +159,6 @@ fn advance_event(advanced: Advanced) -> &'static str {
         Advanced::ClosedWith(_) => "closed with an order",
         Advanced::EnteredFind => "find entered",
         Advanced::Found(_) => "find closed",
-    }
+        Advanced::ByNotice { .. } => return None,
+    })
 }

@@ -41,14 +41,17 @@ const fn grow(
 }
 
 /// A submit of a new tag needs a room that is not full.
-static SERIES: [Series; 23] = [
+static SERIES: [Series; 28] = [
     grow("hear-proposal", "slots", &[1, 8, 64], last_slot),
     grow("hear-state", "slots", &[1, 8, 64], last_slot),
     grow("hear-vote", "slots", &[1, 8, 64], last_slot),
+    grow("hear-notice", "slots", &[1, 8, 64], last_slot),
     grow("hear-proposal", "known tags", &[1, 64, 256], known),
     grow("hear-state", "known tags", &[1, 64, 256], known),
     grow("hear-vote", "known tags", &[1, 64, 256], known),
+    grow("hear-notice", "known tags", &[1, 64, 256], known),
     grow("hear-vote", "n", &[3, 5, 9, 15], rack),
+    grow("hear-notice", "n", &[3, 5, 9, 15], rack),
     grow("submit-blank", "n", &[3, 5, 9, 15], rack),
     grow("submit-new", "known tags", &[16, 64, 255], known),
     grow("submit-known", "known tags", &[16, 64, 256], known),
@@ -63,6 +66,8 @@ static SERIES: [Series; 23] = [
     grow("vote-close", "n", &[3, 5, 9, 15], rack),
     grow("vote-coin", "n", &[3, 5, 9, 15], rack),
     grow("find", "n", &[3, 5, 9, 15], rack),
+    grow("notice-idle", "n", &[3, 5, 9, 15], rack),
+    grow("notice-state", "n", &[3, 5, 9, 15], rack),
     grow("run-on", "n", &[3, 5, 9, 15], rack),
     grow("play", "closed slots (64 known tags)", &[1, 8, 64], closed_of_64),
 ];

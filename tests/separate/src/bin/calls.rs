@@ -7,18 +7,19 @@ use separate::coin::{self, COINS, PATTERN};
 use separate::compare::{compare_play, Difference, Pair};
 use separate::damage::{any_record, lent, DAMAGES};
 use separate::generate::{
-    broken_session, likely_call, limit_plan, session, small_plan, start, strange_call, strange_numbers,
-    wild_session, Habits,
+    broken_session, left_behind_session, likely_call, limit_plan, session, small_plan, start, strange_call,
+    strange_numbers, wild_session, Habits,
 };
 use separate::library;
 use separate::memories::Memories;
+use separate::notices;
 use separate::numbers::{
     Message, Numbers, Sort, LARGEST, MOST_PHASES, MOST_REPLICAS, MOST_SLOTS, USUAL_PHASES,
 };
 use separate::options::number;
 use separate::random::Random;
 use separate::refusal::Refusal;
-use separate::rules;
+use separate::rules::{self, Advanced};
 use separate::tally::{Tally, EVENTS};
 use std::process::ExitCode;
 
@@ -46,7 +47,8 @@ const WIDE: Numbers = Numbers { n: MOST_REPLICAS, f: 7, slots: 2, phases: 3, roo
 fn main() -> ExitCode {
     let (seed, runs) = (number("--seed", 1), number("--runs", 1_000_000));
     let mut tally = Tally::expecting(expected());
-    if let Err(difference) = compare_pattern().and_then(|()| compare_further()) {
+    let first = compare_pattern().and_then(|()| compare_further()).and_then(|()| compare_left_behind());
+    if let Err(difference) = first {
         println!("difference: {difference}");
         return ExitCode::FAILURE;
     }
@@ -71,7 +73,8 @@ fn expected() -> impl Iterator<Item = String> {
     });
     let damages = DAMAGES.iter().map(|(name, _)| format!("damage: {name}"));
     let others = ["other numbers than the run's", "played a step file"];
-    let events = EVENTS.into_iter().chain(others).chain(UNMARKED);
+    let noticed = notices::EVENTS.into_iter().chain(notices::EVENTS_OF_DAMAGE);
+    let events = EVENTS.into_iter().chain(noticed).chain(others).chain(UNMARKED);
     refusals.chain(events.map(str::to_string)).chain(damages)
 }
 
@@ -127,12 +130,36 @@ fn compare_further() -> Result<(), Difference> {
     right.then_some(()).ok_or(format!("a replica that hears itself: answers {answers:?}"))
 }
 
+/// Request 1's rack of three, asked of the library: two close slot 0 in phase 1, and the third waits in phase 2 until it
+/// hears a notice.
+fn compare_left_behind() -> Result<(), Difference> {
+    let run = Numbers { n: 3, f: 1, slots: 2, phases: 4, room: 4 };
+    let mut memories = Memories::of_run(&run);
+    let mut answer = |call: Call| library::make(&call, &run, &mut memories).refusal;
+    let hear = |receiver, sender, sort, phase| Call::Hear { receiver, sender, sort, slot: 0, phase };
+    let mut accepted = vec![Call::Open { plan: run, start: 0 }, Call::Submit { who: 0, tag: 5 }];
+    accepted.extend([Call::Relay { who: 1, tag: 5 }, Call::Submit { who: 2, tag: 9 }]);
+    accepted.extend([0, 1, 2].map(|who| Call::Begin { who }));
+    for (sort, phase) in [(1, 0), (2, 1), (3, 1)] {
+        accepted.extend([hear(0, 1, sort, phase), hear(1, 0, sort, phase), hear(2, 0, sort, phase)]);
+        accepted.extend([0, 1, 2].map(|who| Call::Advance { who }));
+    }
+    if let Some(call) = accepted.into_iter().find(|&call| answer(call) != 0) {
+        return Err(format!("left behind: {call:?} is refused"));
+    }
+    let (advance, notice) = (Call::Advance { who: 2 }, hear(2, 1, 4, 0));
+    let calls =
+        [advance, hear(2, 1, 4, 1), hear(2, 1, 5, 0), hear(1, 2, 4, 0), notice, notice, advance, advance];
+    let answers = calls.map(answer);
+    let right = answers == [14, 16, 16, 17, 0, 18, 0, 13] && memories.log(&run, 2, 1) == [5];
+    right.then_some(()).ok_or(format!("left behind: answers {answers:?}"))
+}
+
 /// The message of the caller's own that a call rests on: the one that it would hear, or one that its advance counts.
 fn own_message(call: &Call, memories: &Memories) -> Option<(usize, Message)> {
     match *call {
         Call::Hear { receiver, sender, sort, slot, phase } if receiver == sender => {
-            let sort = *[Sort::Proposal, Sort::State, Sort::Vote].get(sort.checked_sub(1)?)?;
-            Some((receiver, Message { sort, slot, phase }))
+            Some((receiver, Message { sort: Sort::numbered(sort)?, slot, phase }))
         }
         Call::Advance { who } => Some((who, memories.record(who)?.awaited())),
         _ => None,
@@ -220,10 +247,10 @@ impl Trial<'_> {
         if let Some((who, message)) = own {
             self.note_unmarked(who, message, numbers, &result);
         }
+        self.tally.note_events(call, numbers, &result, &self.pair.ours);
         self.refused_in_a_row += 1;
         if let Ok(done) = result {
             self.refused_in_a_row = 0;
-            self.tally.note_events(call, &done, &self.pair.ours);
             if let Done::Opened(numbers) = done {
                 self.numbers = numbers;
                 self.whole = None;
@@ -232,7 +259,7 @@ impl Trial<'_> {
         Ok(())
     }
 
-    /// No call that ends so changes the message or its mark.
+    /// No call that ends so changes the message or its mark. A close by a notice rests on no message of one's own.
     fn note_unmarked(
         &mut self,
         who: usize,
@@ -241,6 +268,7 @@ impl Trial<'_> {
         result: &Result<Done, Refusal>,
     ) {
         let name = match result {
+            Ok(Done::Advanced(Advanced::ByNotice { .. })) => return,
             Ok(Done::Advanced(_)) => UNMARKED[0],
             Err(Refusal::Heard) => UNMARKED[1],
             _ => return,
@@ -320,9 +348,10 @@ impl Trial<'_> {
     fn compare_play(&mut self) -> Result<(), Difference> {
         let random = &mut self.random;
         let most = if random.one_in(4) { strange_numbers(random, &SMALL) } else { SMALL };
-        let file = match random.below(3) {
+        let file = match random.below(4) {
             0 => session(random, &SMALL),
             1 => broken_session(random, &SMALL),
+            2 => left_behind_session(random, &SMALL),
             _ => wild_session(random, &SMALL),
         };
         let mut memories = lent(random, &SMALL);

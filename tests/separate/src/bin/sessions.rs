@@ -4,8 +4,11 @@
 
 use separate::compare::{compare_play, first_line, Difference};
 use separate::damage::{lent, DAMAGES};
-use separate::generate::{broken_session, long_session, record_places, session, wild_session};
+use separate::generate::{
+    broken_session, left_behind_session, long_session, record_places, session, wild_session,
+};
 use separate::memories::Memories;
+use separate::notices;
 use separate::numbers::{Numbers, LARGEST};
 use separate::options::{number, option};
 use separate::random::Random;
@@ -45,7 +48,8 @@ fn main() -> ExitCode {
 /// A step file meets every refusal but 3: its opening leaves no record spoiled.
 fn expected() -> impl Iterator<Item = String> {
     let refusals = (1..=21).filter(|&refusal| refusal != 3).map(|refusal| format!("refused {refusal}"));
-    refusals.chain(EVENTS.into_iter().chain(FILES).map(str::to_string))
+    let events = EVENTS.into_iter().chain(notices::EVENTS).chain(FILES);
+    refusals.chain(events.map(str::to_string))
 }
 
 fn compare_session(program: &str, seed: u64, tally: &mut Tally) -> Result<(), Difference> {
@@ -70,6 +74,7 @@ fn draw_file(random: &mut Random) -> Vec<u8> {
         0 => long_session(random, &most),
         1..20 => wild_session(random, &most),
         20..40 => broken_session(random, &most),
+        40..46 => left_behind_session(random, &most),
         _ => session(random, &most),
     }
 }
@@ -129,11 +134,9 @@ fn note_file(file: &[u8], tally: &mut Tally) {
 /// Counts the refusals by the report's lines and the events by the records.
 fn note_steps(file: &[u8], tally: &mut Tally) {
     let taken = &file[..file.len().min(REHEARSAL_BYTES)];
-    let played = play_seen(&REHEARSAL, taken, &mut Memories::of_run(&REHEARSAL), |call, result, memories| {
-        if let Ok(done) = result {
-            tally.note_events(call, done, memories);
-        }
-    });
+    let note =
+        |call: &_, numbers: &_, result: &_, memories: &_| tally.note_events(call, numbers, result, memories);
+    let played = play_seen(&REHEARSAL, taken, &mut Memories::of_run(&REHEARSAL), note);
     let text = String::from_utf8_lossy(&played.report).into_owned();
     for refusal in text.lines().filter_map(|line| line.strip_prefix("refused ")?.split(' ').nth(1)) {
         tally.note(&format!("refused {refusal}"));
