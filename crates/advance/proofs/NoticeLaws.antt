@@ -1,9 +1,9 @@
 -- The search for a notice, sender by sender, and what is heeded.
 use Prim.Native.Nat.{ℕ, suc, _+_, _-_, _≤_, _<_}
 use native.Mathlib.Omega.{arith}
-use mathlib.Core.Bool.{Bool, true, false, _&&_}
+use mathlib.Core.Bool.{true, false}
 use mathlib.Core.List.{List}
-use mathlib.Core.Path.{_≡_, refl, sym, _∙_, ap}
+use mathlib.Core.Path.{_≡_, sym, _∙_, ap}
 use lib.Dec.{ltb}
 use borrow.Author.Tests.{ltb-true}
 use Rattle.model.specs.declared.Numbers.{Numbers}
@@ -14,12 +14,13 @@ use Rattle.model.specs.declared.Effect.{Effect}
 use Rattle.model.specs.declared.Effect.the-variants.{Close}
 use Rattle.model.specs.Rack.{is-sent, tag-of, Replica}
 use Rattle.model.specs.TurnedAway.{Rule, unless, settle}
-use Rattle.model.specs.Rules.{phase-in, seen, first-sent, notice, heed}
+use Rattle.model.specs.Rules.{seen, first-sent, notice, heed}
 use Rattle.model.proofs.Branches.{if-true, if-false}
+use Rattle.model.proofs.Cases.{and-none}
 use Rattle.model.proofs.FirstSent.{first-none, first-alike}
 use Rattle.tables.specs.Layout.{has-row}
 use Rattle.tables.specs.View.{in-run, guarded, inbox-in}
-use Rattle.tables.specs.Addresses.{Within, guarded-at}
+use Rattle.tables.specs.Addresses.{Within, guarded-at, notice-within}
 use Rattle.messages.specs.Reach.{Reach, reading}
 use Rattle.tallies.specs.Heard.{InSlot, heard-by}
 use Rattle.advance.specs.Noticed.{noticed}
@@ -49,29 +50,20 @@ module _ (N : Numbers) (k : Replica) where
 
 -- a sender's notice is a message of the run
 pub of-notices : {N : Numbers} {c s : ℕ} {ws os bs : List ℕ} {d : ℕ} → InSlot N c s ws os bs → d < N .n → Within N Notices s 0 d
-unfolding phase-in
-of-notices x h = record { sender = h; slot = x .slot; phase = refl }
+of-notices {N} x h = notice-within N h (x .slot)
 
 -- ---- of a slot that has no row, and of one that has
 
 module _ (N : Numbers) (c s : ℕ) (ws os bs : List ℕ) where
   pub no-row : has-row N s ≡ false → Unsent ≡ noticed N c s ws os bs
   unfolding guarded in-run
-  no-row e = sym (first-none _ (λ d. ap is-sent (if-false _ _ (rw e (no-and (ltb d (N .n)))))) 0 (N .n))
-    where
-      no-and : (b : Bool) → (b && false) ≡ false
-      no-and true = refl
-      no-and false = refl
+  no-row e = sym (first-none _ (λ d. ap is-sent (if-false _ _ (and-none (ltb d (N .n)) _ (rw e)))) 0 (N .n))
 
   pub row-slot : c < N .n → Reach N ws os bs → has-row N s ≡ true → InSlot N c s ws os bs
   row-slot there reach e = record { who = there; slot = ltb-true _ _ e; reach = reach }
 
   pub in-row : {w : Word} → has-row N s ≡ true → w ≡ notice N (heard-by N c s 0 ws os bs) → w ≡ noticed N c s ws os bs
-  unfolding phase-in
-  in-row e q = q ∙ first-alike _ _ (N .n) (λ d l. sym (guarded-at N _ (message d l))) 0 (N .n) (omega arith)
-    where
-      message : (d : ℕ) → d < N .n → Within N Notices s 0 d
-      message d l = record { sender = l; slot = ltb-true _ _ e; phase = refl }
+  in-row e q = q ∙ first-alike _ _ (N .n) (λ d l. sym (guarded-at N _ (notice-within N l (ltb-true _ _ e)))) 0 (N .n) (omega arith)
 
 -- ---- what is heeded
 

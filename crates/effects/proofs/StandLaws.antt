@@ -4,7 +4,7 @@ use native.Mathlib.Numerals.{add-one}
 use native.Mathlib.Omega.{arith}
 use mathlib.Core.List.{List}
 use mathlib.Core.Logic.{inr}
-use mathlib.Core.Path.{_≡_, refl, sym, ap, _∙_, subst}
+use mathlib.Core.Path.{_≡_, sym, ap, _∙_, subst}
 use lib.ListN.{set}
 use Rattle.model.specs.declared.Numbers.{Numbers}
 use Rattle.model.specs.declared.Round.{Round}
@@ -16,10 +16,9 @@ use Rattle.model.specs.declared.Effect.the-variants.{Send, Close}
 use Rattle.tables.specs.declared.Record.{Record}
 use Rattle.model.specs.Limits.{most-phases}
 use Rattle.model.specs.Rack.{round-number, round-of}
-use Rattle.model.specs.Rules.{phase-in}
 use Rattle.tables.specs.Layout.{record-end, record-at, record-stored, proposal-cell, ballot-cell, heard-cell, log-cell}
 use Rattle.tables.specs.Bounds.{Bounds}
-use Rattle.tables.specs.Addresses.{Within, phase-low}
+use Rattle.tables.specs.Addresses.{Within, notice-within, phase-low}
 use Rattle.tables.specs.Sections.{elsewhere, record-agrees}
 use Rattle.tables.specs.Write.{word-number, proposal-stored, ballot-stored, moved, halted, entered, words-sent, write}
 use Rattle.tables.specs.Calls.{tables}
@@ -53,9 +52,8 @@ module _ (ws : List ℕ) (c : ℕ) {k : Record} (loaded : k ≡ record-at ws c) 
     within-is {so} {p} w = subst (λ (k : Record). Within N so (k .slot) p c) (sym loaded) w
 
     -- its notice is a message of the run
-    pub notice-within : c < N .n → record-at ws c .slot < N .slots → Within N Notices (k .slot) 0 c
-    unfolding phase-in
-    notice-within hc h = record { sender = hc; slot = slot-is h; phase = refl }
+    pub own-notice : c < N .n → record-at ws c .slot < N .slots → Within N Notices (k .slot) 0 c
+    own-notice hc h = notice-within N hc (slot-is h)
 
     -- the mark of its message stands behind the records, so the record that is moved is still the one that was loaded
     still-loaded : c < N .n → (so : Sort) (s p : ℕ) → k ≡ record-at (set ws (heard-cell N so s p c) (2 ^ c)) c

@@ -16,7 +16,7 @@ use Rattle.model.specs.Tests.{listed}
 use Rattle.model.specs.Rack.{same-round, round-of, Replica}
 use Rattle.model.specs.Rules.{is-crash, phase-in}
 use Rattle.model.specs.Scripts.{play, accepted}
-use Rattle.model.proofs.Cases.{clash, if-ind, unless-ind, unmet-both}
+use Rattle.model.proofs.Cases.{clash, and-none, if-ind, unless-ind, unmet-both}
 use Rattle.model.proofs.Counting.{any-nowhere}
 use Rattle.safety.specs.Comes.{ByRule, by-submit, by-relay, by-begin, by-hear, by-notice, by-exchange, by-state}
 use Rattle.safety.specs.Comes.{by-outcome-0, by-outcome-1, by-seek, by-next-phase, by-find, by-crash, past}
@@ -50,11 +50,6 @@ record Steady (N : Numbers) (ws l : List ℕ) : Type 0 where
   pub known : known-in l ≤ N .room
   pub fit : (d : ℕ) → d < N .n → Fit N (record-at ws d) (record-at l d)
 
--- the second of two tests fails, so both do not pass
-not-both : (a b : Bool) → b ≡ false → (a && b) ≡ false
-not-both true b e = e
-not-both false b e = refl
-
 -- memories as long as before whose words are steady are fine again
 still : (N : Numbers) {t u : Tables} → Sound N t → lengths u ≡ lengths t → Steady N (t .words) (u .words) → StillFine N t u
 unfolding any-spoiled
@@ -62,7 +57,7 @@ still N {t} {u} fine same steady = record {
   fine = record {
     within = fine .within;
     known = steady .known;
-    unspoiled = any-nowhere (N .n) _ (λ d h. not-both (leb (record-end d) (length (u .words))) _ (steady .fit d h .0));
+    unspoiled = any-nowhere (N .n) _ (λ d h. and-none (leb (record-end d) (length (u .words))) _ (steady .fit d h .0));
     long = subst (Long N) (sym same) (fine .long);
   };
   alike = λ d h. steady .fit d h .1;

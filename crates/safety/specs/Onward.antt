@@ -24,7 +24,7 @@ use Rattle.model.specs.Rules.{majority-among, majority-tag, notice, outcome, co
 use Rattle.model.specs.Rules.{hear-rule, own-rule, from-nobody, first-refusals, decide}
 use Rattle.model.specs.Scripts.{accepted}
 use Rattle.model.proofs.Branches.{if-false, when-met, when-missed}
-use Rattle.model.proofs.Cases.{clash, either, and-true, and-both, or-true, or-false, or-none, if-ind, Unmet, unmet-past}
+use Rattle.model.proofs.Cases.{clash, either, and-true, and-both, and-none, or-true, or-false, or-none, if-ind, Unmet, unmet-past}
 use Rattle.model.proofs.Cases.{round-apart, sort-back, is-true, is-yes}
 use Rattle.model.proofs.Counting.{any-false, any-nowhere, any-place}
 use Rattle.model.proofs.FirstSent.{first-there}
@@ -49,10 +49,6 @@ settles (g ∷ gs) e u = if-false _ _ (u .0) ∙ settles gs e (u .1)
 
 passes : (x : Rule) → Goes x → accepted (settle x) ≡ true
 passes x (u, e) = ap accepted (settles (x .refusals) (x .effect) u) ∙ e
-
-and-none : (a b : Bool) → b ≡ false → (a && b) ≡ false
-and-none true b e = e
-and-none false b e = refl
 
 -- ---- a tag that is pending is found
 

@@ -1,5 +1,5 @@
 use native.Mathlib.Omega.{arith}
-use Rattle.effects.proofs.StandLaws.{slot-is, notice-within, closed-by}
+use Rattle.effects.proofs.StandLaws.{slot-is, own-notice, closed-by}
 use borrow.Author.Needs.{needs}
 use Rattle.effects.proofs.sends.close.Statement.{statement}
 use Rattle.effects.proofs.sends.close.Tie as tie
@@ -17,7 +17,7 @@ close-spec =
     (λ c κs. search needs)
     (λ c. search needs)
     (λ c κs. (search, search, search slot-is, search))
-    (λ c κs. (search, search notice-within, search))
+    (λ c κs. (search, search own-notice, search))
     add-enter
     (λ c κs. search needs)
     (λ c. search needs)
