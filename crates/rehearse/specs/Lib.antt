@@ -1,3 +1,4 @@
 pub mod Enough
 pub mod Rehearsal
+pub mod Reports
 pub mod Whole

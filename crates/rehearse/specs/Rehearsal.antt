@@ -7,9 +7,10 @@ use Rattle.tables.specs.Layout.{Tables, words-need, orders-need, ballots-need}
 use Rattle.tables.specs.Calls.{tables}
 use Rattle.session.specs.Reported.{report}
 
--- "with tables for 7 controllers, 16 slots, 8 phases and 64 tags; larger openings get refusal 2"
+-- "with tables for 7 controllers, 16 slots, 8 phases and 64 tags; larger openings get refusal 2"; document 02: "The rehearsal
+-- program's tables grow to 16 phases."
 abbrev pub most : Numbers
-most = record { n = 7; f = 3; slots = 16; phases = 8; room = 64 }
+most = record { n = 7; f = 3; slots = 16; phases = 16; room = 64 }
 
 -- the memories that runs of these numbers need
 unfoldable pub blank : Tables

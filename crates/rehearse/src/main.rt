@@ -9,7 +9,7 @@ ghost use Rattle.io.specs.Counts.{Counts};
 ghost use Rattle.report.specs.Page.{page, print};
 ghost use Rattle.rehearse.specs.Rehearsal.{rehearsal};
 
-// "With tables for 7 controllers, 16 slots, 8 phases and 64 tags; larger openings get refusal 2."
+// "With tables for 7 controllers, 16 slots, 8 phases and 64 tags; larger openings get refusal 2." Document 02: 16 phases.
 fn rehearse(file: &[u8], report: &mut [u8]) -> usize
     ensures { λ r. ⌜ Counts r (now (report .exit)) ⌝ }
     ensures { λ r. ⌜ page (now (report .exit)) r ≡ print (page (now (report .entry)) 0) (rehearsal (now (file .entry))) ⌝ }
@@ -18,13 +18,13 @@ fn rehearse(file: &[u8], report: &mut [u8]) -> usize
         n: 7,
         f: 3,
         slots: 16,
-        phases: 8,
+        phases: 16,
         room: 64,
     };
-    let mut words = [0u16; 2109];
+    let mut words = [0u16; 3901];
     let mut orders = [0u64; 288];
-    let mut ballots = [0u8; 1792];
-    let mut strip = [0u8; 128];
+    let mut ballots = [0u8; 3584];
+    let mut strip = [0u8; 256];
     let session = play(
         most,
         file,
