@@ -91,7 +91,7 @@ enum rushhopper_refusal {
     RUSHHOPPER_OUT_OF_PLACE = 21      /* a step before an accepted opening, or an opening after one */
 };
 
-/* refusal 0: the numbers of the run that was opened (phases 0 became 8); else all 0 */
+/* refusal 0: the numbers of the run that was opened (phases 0 became RUSHHOPPER_DEFAULT_PHASES); else all 0 */
 struct rushhopper_opened { size_t refusal; struct rushhopper_numbers numbers; };
 /* refusal 0: how many advances were accepted; else 0 */
 struct rushhopper_ran { size_t refusal, advances; };
@@ -99,9 +99,12 @@ struct rushhopper_ran { size_t refusal, advances; };
  * else all 0 */
 struct rushhopper_played { size_t written, opened; struct rushhopper_numbers numbers; };
 
-/* How many elements of each memory, and of the strip, a run needs; constant for constant numbers. Phases of 0 count as 8,
- * as in an opening. The functions are the same for numbers that are known only when the program runs. */
-#define RUSHHOPPER_PHASES(phases) ((size_t)((phases) == 0 ? 8 : (phases)))
+/* What a phase limit of 0 stands for in an opening, and only there. */
+#define RUSHHOPPER_DEFAULT_PHASES 16
+
+/* How many elements of each memory, and of the strip, a run needs; constant for constant numbers. Phases of 0 count as in an
+ * opening. The functions are the same for numbers that are known only when the program runs. */
+#define RUSHHOPPER_PHASES(phases) ((size_t)((phases) == 0 ? RUSHHOPPER_DEFAULT_PHASES : (phases)))
 #define RUSHHOPPER_WORDS_LENGTH(n, slots, phases, room) \
     (4 * (size_t)(n) + 1 + (size_t)(room) + (size_t)(slots) * (2 * RUSHHOPPER_PHASES(phases) + 2) * (size_t)(n))
 #define RUSHHOPPER_ORDERS_LENGTH(n, slots, room) ((size_t)(room) + 2 * (size_t)(slots) * (size_t)(n))
@@ -164,7 +167,7 @@ static inline size_t rushhopper_report_length(size_t file_length, struct rushhop
 size_t rushhopper_fill_strip(size_t slots, size_t phases, size_t start, uint8_t *strip, size_t strip_length);
 
 /* Starts a run: all replicas running and idle at slot 0, the part of each memory that the run needs cleared, the strip
- * filled from start. A phase limit of 0 stands for 8. Refusals 1, 2. */
+ * filled from start. A phase limit of 0 stands for 16. Refusals 1, 2. */
 struct rushhopper_opened rushhopper_open(struct rushhopper_numbers numbers, size_t start,
                                          RUSHHOPPER_MEMORIES, uint8_t *strip, size_t strip_length);
 

@@ -9,7 +9,7 @@
 
 The text has one step to a line; blank lines and what follows a # are passed over:
 
-    opening 3 1 2 4 4 0        # n f slots phases room start
+    opening 3 1 2 4 4 0        # n f slots phases room start; a phase limit of 0 stands for 16
     submit 0 5                 # controller tag
     relay 1 5
     begin 0
@@ -23,7 +23,8 @@ The text has one step to a line; blank lines and what follows a # are passed ove
 
 A tag is a decimal number, or TIME:NUMBER for TIME times 2^32 plus NUMBER. Any number that fits its bytes can be written,
 also one that the library refuses; a sort that has no name is written as its number. A phase that is left out is 0, but a
-state or vote wants one.
+state or vote wants one. The rehearsal program has tables for 7 controllers, 16 slots, 16 phases and 64 tags: larger openings
+get refusal 2 there.
 """
 
 import argparse

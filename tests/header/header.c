@@ -50,14 +50,22 @@ static void lengths_are_exact(struct rushhopper_memories *memories, struct rushh
 /* The numbers of README.md, "Sizes of the memories". */
 static void bytes_are_those_of_the_readme(void)
 {
-    EXPECT(RUSHHOPPER_BYTES(3, 64, 8, 256) == 16154 && RUSHHOPPER_BYTES(3, 64, 32, 256) == 45338);
-    EXPECT(RUSHHOPPER_BYTES(5, 64, 8, 256) == 24874 && RUSHHOPPER_BYTES(5, 64, 32, 256) == 72490);
-    EXPECT(RUSHHOPPER_BYTES(15, 64, 8, 256) == 68474 && RUSHHOPPER_BYTES(15, 64, 32, 256) == 208250);
+    static const struct { size_t n, of_8, of_16, of_32; } rows[] = {
+        {3, 16154, 25882, 45338}, {5, 24874, 40746, 72490}, {15, 68474, 115066, 208250}
+    };
+    size_t i;
+
+    for (i = 0; i < sizeof rows / sizeof rows[0]; i++) {
+        EXPECT(RUSHHOPPER_BYTES(rows[i].n, 64, 8, 256) == rows[i].of_8);
+        EXPECT(RUSHHOPPER_BYTES(rows[i].n, 64, 16, 256) == rows[i].of_16);
+        EXPECT(RUSHHOPPER_BYTES(rows[i].n, 64, 0, 256) == rows[i].of_16);
+        EXPECT(RUSHHOPPER_BYTES(rows[i].n, 64, 32, 256) == rows[i].of_32);
+    }
 }
 
 static void nothing_goes_before_an_opening(void)
 {
-    const struct rushhopper_numbers bad = {4, 2, 2, 4, 4}, larger = {4, 1, 2, 8, 4};
+    const struct rushhopper_numbers bad = {4, 2, 2, 4, 4}, larger = {4, 1, 2, 16, 4};
 
     EXPECT(rushhopper_submit_in(&rack, zero, 5) == RUSHHOPPER_SPOILED_RECORD);
     EXPECT(rushhopper_crash_in(&rack, zero) == RUSHHOPPER_SPOILED_RECORD);
@@ -69,10 +77,10 @@ static void nothing_goes_before_an_opening(void)
 
 static void an_opening_keeps_its_numbers(void)
 {
-    const struct rushhopper_numbers larger = {4, 1, 2, 8, 4};
+    const struct rushhopper_numbers larger = {4, 1, 2, 16, 4};
 
     EXPECT(rushhopper_open_in(&rack, three, 0) == RUSHHOPPER_ACCEPTED);
-    EXPECT(rack.numbers.n == 3 && rack.numbers.phases == 8);
+    EXPECT(rack.numbers.n == 3 && rack.numbers.phases == 16 && RUSHHOPPER_DEFAULT_PHASES == 16);
     EXPECT(rushhopper_open_in(&rack, larger, 0) == RUSHHOPPER_SHORT_TABLE);
     EXPECT(rack.numbers.n == 3);
 }
@@ -148,6 +156,32 @@ static void a_player_refuses_what_its_memories_cannot_hold(void)
     EXPECT(played.opened == 1 && played.numbers.f == 1);
     played = rushhopper_play_in(&smallest, flat, file, sizeof file, report, sizeof report);
     EXPECT(played.opened == 0 && played.written == 12 && memcmp(report, "refused 1 2\n", 12) == 0);
+}
+
+/* A player with the rehearsal program's numbers: 0 stands for 16 phases and is let in, as 16 is; 17 get 2. A step and a strip
+ * have no such phase limit of 0. */
+static void more_than_16_phases_are_refused(void)
+{
+    static const uint8_t phases[] = {0, 16, 17, 33};
+    static const size_t refusals[] = {0, 0, RUSHHOPPER_SHORT_TABLE, RUSHHOPPER_BAD_PLAN};
+    const struct rushhopper_numbers rehearsal = {7, 3, 16, 16, 64};
+    const struct rushhopper_message last = {RUSHHOPPER_SORT_STATE, {0}, {16}, one};
+    struct rushhopper_message past = last;
+    size_t i;
+
+    past.phase.index = 17;
+    for (i = 0; i < sizeof phases; i++) {
+        const uint8_t file[] = {0, 3, 1, 2, phases[i], 4, 0, 0, 0};
+        uint8_t report[128] = {0};
+        struct rushhopper_played played = rushhopper_play_in(&largest, rehearsal, file, sizeof file, report, sizeof report);
+        EXPECT(played.opened == (refusals[i] == 0) && played.numbers.phases == (refusals[i] == 0 ? 16 : 0));
+        EXPECT(refusals[i] == 0 || report[played.written - 2] == '0' + refusals[i]);
+    }
+    EXPECT(rushhopper_hear_in(&largest, zero, last) == RUSHHOPPER_NOT_SENT);
+    EXPECT(rushhopper_hear_in(&largest, zero, past) == RUSHHOPPER_NO_SUCH_MESSAGE);
+    largest.numbers.phases = 0;
+    EXPECT(rushhopper_hear_in(&largest, zero, last) == RUSHHOPPER_SPOILED_RECORD);
+    EXPECT(rushhopper_fill_strip_in(&largest, 0) == RUSHHOPPER_BAD_PLAN);
 }
 
 /* The most lines that a file can have: a begin is as short as a record can be, and here each is refused. */
@@ -319,6 +353,7 @@ int main(void)
     a_run_on_counts_its_advances();
     a_file_is_played();
     a_player_refuses_what_its_memories_cannot_hold();
+    more_than_16_phases_are_refused();
     no_report_fills_the_length_for_it();
     no_long_lines_fill_the_length_for_them();
     words_are_the_documents();

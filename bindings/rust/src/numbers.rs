@@ -25,7 +25,7 @@ pub struct Numbers {
     pub f: usize,
     /// 1 to 64.
     pub slots: usize,
-    /// To a slot, 1 to 32. In an opening 0 stands for 8.
+    /// To a slot, 1 to 32. In an opening, and only there, 0 stands for [`Numbers::DEFAULT_PHASES`].
     pub phases: usize,
     /// How many tags can be known, 1 to 256.
     pub room: usize,
@@ -44,14 +44,15 @@ impl Numbers {
     pub const LARGEST: Numbers = Numbers { n: 15, f: 7, slots: 64, phases: 32, room: 256 };
 
     /// What the rehearsal program has memories for.
-    pub const REHEARSAL: Numbers = Numbers { n: 7, f: 3, slots: 16, phases: 8, room: 64 };
+    pub const REHEARSAL: Numbers = Numbers { n: 7, f: 3, slots: 16, phases: 16, room: 64 };
 
-    const USUAL_PHASES: usize = 8;
+    /// What a phase limit of 0 stands for in an opening.
+    pub const DEFAULT_PHASES: usize = 16;
 
     /// Numbers to make memories for. Those beyond the limits are cut to them: no run has them, and their memories might
     /// not fit the machine.
     pub(crate) fn of_memories(self) -> Numbers {
-        let phases = if self.phases == 0 { Numbers::USUAL_PHASES } else { self.phases };
+        let phases = if self.phases == 0 { Numbers::DEFAULT_PHASES } else { self.phases };
         Numbers {
             n: self.n.min(Numbers::LARGEST.n),
             f: self.f,

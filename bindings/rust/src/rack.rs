@@ -48,7 +48,7 @@ impl Rack {
         Ok(Rack { numbers, memories })
     }
 
-    /// The numbers of the run, in which a phase limit of 0 has become 8.
+    /// The numbers of the run, in which a phase limit of 0 has become 16.
     pub fn numbers(&self) -> Numbers {
         self.numbers
     }

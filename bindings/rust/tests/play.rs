@@ -38,6 +38,21 @@ fn larger_openings() {
     assert_eq!(play_within(beyond, &opening), play(&opening));
 }
 
+/// By the rehearsal program's numbers; a phase limit of 0 stands for 16 before it is compared with them.
+#[test]
+fn more_than_16_phases() {
+    let opening = |phases| [0, 3, 1, 2, phases, 4, 0, 0, 0];
+    let opened = "controllers 3 spare 1\nbench 0 lit 0\nbench 1 lit 0\nbench 2 lit 0\n";
+    for phases in [0, 16] {
+        assert_eq!(play_within(Numbers::REHEARSAL, &opening(phases)), opened);
+    }
+    assert_eq!(play_within(Numbers::REHEARSAL, &opening(17)), "refused 1 2\n");
+    assert_eq!(play_within(Numbers::REHEARSAL, &opening(33)), "refused 1 1\n");
+    assert_eq!(play(&opening(17)), opened);
+    let fewer = Numbers { phases: 15, ..Numbers::REHEARSAL };
+    assert_eq!(play_within(fewer, &opening(0)), "refused 1 2\n");
+}
+
 #[test]
 fn a_spare_number_is_not_looked_at() {
     let most = Numbers { f: 0, ..Numbers::REHEARSAL };

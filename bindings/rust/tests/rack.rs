@@ -28,7 +28,12 @@ fn round(rack: &mut Rack, message: Message, hearings: &[(usize, usize)]) {
 
 /// Three replicas in the exchange of slot 0: 0 and 1 have proposed 5, and 2 has proposed 9.
 fn proposed() -> Rack {
-    let mut rack = Rack::open(plan(3, 1, 2)).expect("a plan within the limits");
+    proposed_by(plan(3, 1, 2))
+}
+
+/// The same in a run of three by another plan.
+fn proposed_by(plan: Plan) -> Rack {
+    let mut rack = Rack::open(plan).expect("a plan within the limits");
     assert_eq!(rack.submit(Replica(0), 5), Ok(()));
     assert_eq!(rack.relay(Replica(1), 5), Ok(()));
     assert_eq!(rack.submit(Replica(2), 9), Ok(()));
@@ -59,10 +64,27 @@ fn openings() {
 }
 
 #[test]
-fn a_phase_limit_of_0_stands_for_8() {
+fn a_phase_limit_of_0_stands_for_16() {
     let numbers = Numbers { phases: 0, ..plan(5, 2, 64).numbers };
     let rack = Rack::open(Plan { numbers, start: 0 }).expect("a plan within the limits");
-    assert_eq!(rack.numbers(), Numbers { phases: 8, ..numbers });
+    assert_eq!(rack.numbers(), Numbers { phases: 16, ..numbers });
+    assert_eq!(Numbers::DEFAULT_PHASES, 16);
+}
+
+/// In each phase 1 votes 0 and the others `?`; then 0 takes the coin, which is 1 up to phase 9, and the others go on with 0.
+#[test]
+fn a_busy_day_goes_on_past_phase_8() {
+    let numbers = Numbers { phases: 0, ..plan(3, 1, 2).numbers };
+    let mut rack = proposed_by(Plan { numbers, start: 0 });
+    round(&mut rack, Message::Proposal(FIRST), &[(0, 1), (1, 2), (2, 0)]);
+    for phase in 1..=9 {
+        let busy = Record { crashed: false, round: Round::State(Phase(phase)), slot: FIRST };
+        assert_eq!(rack.record(Replica(0)), Some(busy));
+        round(&mut rack, state(phase), &[(0, 2), (1, 2), (2, 0)]);
+        round(&mut rack, vote(phase), &[(0, 2), (1, 2), (2, 1)]);
+    }
+    assert_eq!(rack.hear(Replica(0), Replica(1), state(16)), Err(Refusal::NotSent));
+    assert_eq!(rack.hear(Replica(0), Replica(1), state(17)), Err(Refusal::NoSuchMessage));
 }
 
 #[test]
