@@ -264,7 +264,7 @@ fn crash(numbers: &Numbers, fill: Fill) -> (Script, Work) {
 /// The file of the whole script, which the opening in it starts anew.
 fn play(numbers: &Numbers, fill: Fill) -> (Script, Work) {
     let script = Script::filled(numbers, fill);
-    let file = script.file.clone();
+    let file = script.file();
     (script, Work::Play { file })
 }
 

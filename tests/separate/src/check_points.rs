@@ -1,7 +1,8 @@
 //! Document 01's check points C1 to C10, "Further" and its worked session, and refusals 3 and 2 of short memories; C11
-//! stands beside the coin table. Those of document 02 stand in a file of their own.
+//! stands beside the coin table. Those of document 02 stand in a file for each request.
 
 mod notices;
+mod phases;
 
 use crate::call::{Call, Done};
 use crate::memories::{bit, Memories, Record, EXCHANGE, IDLE, ONE, STATE, UNDECIDED, VOTE, ZERO};
@@ -140,8 +141,8 @@ fn further_openings() {
             .map(|numbers| numbers.phases)
     };
     assert_eq!(answer(4, 2, 1, 0), Err(Refusal::BadPlan));
-    assert_eq!(answer(5, 2, 1, 0), Ok(8));
-    assert_eq!(answer(5, 2, 64, 510), Ok(8));
+    assert_eq!(answer(5, 2, 1, 0), Ok(16));
+    assert_eq!(answer(5, 2, 64, 510), Ok(16));
     assert_eq!(answer(5, 2, 65, 0), Err(Refusal::BadPlan));
     assert_eq!(answer(5, 2, 64, 511), Err(Refusal::BadPlan));
 }
@@ -268,7 +269,7 @@ fn reading_stops_at_19_and_20_and_the_benches_follow() {
 #[test]
 fn larger_openings_are_short_after_1_and_21() {
     assert_eq!(report(&[0, 8, 0, 1, 1, 1, 0, 0, 0]), b"refused 1 2\n");
-    assert_eq!(report(&[0, 1, 0, 1, 9, 1, 0, 0, 0]), b"refused 1 2\n");
+    assert_eq!(report(&[0, 1, 0, 1, 17, 1, 0, 0, 0]), b"refused 1 2\n");
     assert_eq!(report(&[0, 8, 4, 1, 1, 1, 0, 0, 0]), b"refused 1 1\n");
 }
 

@@ -18,7 +18,7 @@ const fn coin_table() -> [u8; PATTERN] {
     coins
 }
 
-/// "Strip: 1, 2." No phase limit of 0 here: it stands for 8 in an opening only.
+/// "Strip: 1, 2." No phase limit of 0 here: it stands for 16 in an opening only.
 pub fn fill_strip(slots: usize, phases: usize, start: usize, strip: &mut [u8]) -> Result<(), Refusal> {
     let within = (1..=MOST_SLOTS).contains(&slots) && (1..=MOST_PHASES).contains(&phases) && start < PATTERN;
     if !within {

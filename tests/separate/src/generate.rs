@@ -1,6 +1,7 @@
 //! Draws calls and step files by a seed. They are steered by the rules themselves: a drawn call is tried first, and
 //! mostly accepted ones are kept.
 
+use crate::busy::{busy_script, settle};
 use crate::call::Call;
 use crate::coin::PATTERN;
 use crate::memories::{Memories, FIND, IDLE};
@@ -8,7 +9,6 @@ use crate::numbers::{
     Message, Numbers, Sort, MOST_PHASES, MOST_REPLICAS, MOST_ROOM, MOST_SLOTS, USUAL_PHASES,
 };
 use crate::random::Random;
-use crate::rules;
 use crate::script::{order, Script, ROUNDS};
 use crate::step_file::{body_length, write_record, REHEARSAL_BYTES};
 
@@ -101,7 +101,7 @@ pub fn limit_plan(random: &mut Random) -> Numbers {
         0 => plan.n = random.pick(&[0, 7, 8, MOST_REPLICAS, MOST_REPLICAS + 1, 255]),
         1 => plan.f = random.pick(&[plan.n / 2, plan.n / 2 + 1, plan.n, 127, 128, 255]),
         2 => plan.slots = random.pick(&[0, 16, 17, MOST_SLOTS, MOST_SLOTS + 1, 255]),
-        3 => plan.phases = random.pick(&[0, 8, 9, MOST_PHASES, MOST_PHASES + 1, 255]),
+        3 => plan.phases = random.pick(&[0, 16, 17, MOST_PHASES, MOST_PHASES + 1, 255]),
         _ => plan.room = random.pick(&[0, 64, 65, MOST_ROOM, MOST_ROOM + 1, 65_535]),
     }
     plan
@@ -261,16 +261,35 @@ fn strange_hear(random: &mut Random, numbers: &Numbers, n: usize) -> Call {
 
 /// A mostly valid session of a run that `most` lets in.
 pub fn session(random: &mut Random, most: &Numbers) -> Vec<u8> {
-    let plan = small_plan(random, most);
-    let start = random.below(PATTERN);
-    let opening = Call::Open { plan, start };
-    let mut file = Vec::new();
-    write_record(&mut file, &opening);
-    let numbers = rules::planned(&plan, start).expect("numbers within the limits");
-    let mut memories = Memories::of_run(&numbers);
-    opening.make(&numbers, &mut memories).expect("memories of the run's lengths");
+    let script = Script::opened(&small_plan(random, most), random.below(PATTERN));
+    let steps = random.pick(&[30, 200, 600, 1200]);
+    drawn_on(random, script, steps)
+}
+
+/// A session of three replicas that are busy in slot 0, mostly up to the last phase, and then go on as drawn.
+pub fn busy_session(random: &mut Random, most: &Numbers) -> Vec<u8> {
+    let phases = if random.one_in(2) { 0 } else { random.between(1, most.phases) };
+    let plan = Numbers { n: 3, f: 1, slots: random.between(1, most.slots.min(3)), phases, room: 4 };
+    let last = if phases == 0 { USUAL_PHASES } else { phases };
+    let busy = if random.one_in(3) { random.between(1, last) } else { last };
+    let mut script = busy_script(&plan, random.below(PATTERN), busy);
+    if busy < last && random.one_in(2) {
+        settle(&mut script, busy + 1);
+    }
+    // the last phase is one, and behind it is none
+    for phase in [last, last + 1] {
+        script.hear_in(phase, random.below(3), random.below(3), random.pick(&[Sort::State, Sort::Vote]));
+    }
+    let steps = random.below(100);
+    drawn_on(random, script, steps)
+}
+
+/// The script's calls, and so many that are drawn, most of them accepted.
+fn drawn_on(random: &mut Random, script: Script, steps: usize) -> Vec<u8> {
+    let (numbers, mut file) = (script.numbers, script.file());
+    let mut memories = script.memories;
     let habits = Habits::draw(random, numbers.n);
-    for _ in 0..random.pick(&[30, 200, 600, 1200]) {
+    for _ in 0..steps {
         let strange = random.one_in(100);
         let call = if strange {
             strange_call(random, &numbers)
@@ -299,7 +318,7 @@ pub fn left_behind_session(random: &mut Random, most: &Numbers) -> Vec<u8> {
         script.begin(camp.clone());
         script.go_on(camp.clone(), &ROUNDS);
     }
-    let mut file = script.file;
+    let mut file = script.file();
     for _ in 0..random.between(4, 16) {
         write_record(&mut file, &call_left_behind(random, slots, camp.end, n));
     }

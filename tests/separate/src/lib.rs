@@ -1,9 +1,10 @@
-//! Document 01's order log with request 1 of document 02, written from the documents and apart from the library, and what
-//! compares the two: by whole step files (the program `sessions`) and by direct calls on ordinary and damaged memories (`calls`), and in time
-//! (`bench`).
+//! Document 01's order log with requests 1 and 2 of document 02, written from the documents and apart from the library, and
+//! what compares the two: by whole step files (the program `sessions`), by direct calls on ordinary and damaged memories
+//! (`calls`), and in time (`bench`).
 
 #[cfg(feature = "library")]
 pub mod batch;
+pub mod busy;
 pub mod call;
 pub mod cases;
 #[cfg(test)]
@@ -19,6 +20,7 @@ pub mod memories;
 pub mod notices;
 pub mod numbers;
 pub mod options;
+pub mod phases;
 pub mod random;
 pub mod refusal;
 pub mod rules;

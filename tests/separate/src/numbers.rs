@@ -6,8 +6,8 @@ pub const MOST_REPLICAS: usize = 15;
 pub const MOST_SLOTS: usize = 64;
 /// "Phases: 1 to 32, numbered from 1".
 pub const MOST_PHASES: usize = 32;
-/// "a phase limit of 0 in an opening stands for 8, and only there."
-pub const USUAL_PHASES: usize = 8;
+/// "Labs leave an opening's phase limit at 0 ... There 0 now stands for 16.", "and only there."
+pub const USUAL_PHASES: usize = 16;
 /// "Tag room: 1 to 256 known orders."
 pub const MOST_ROOM: usize = 256;
 

@@ -1,4 +1,4 @@
-//! The calls of document 01 over lent memories, with the notices of document 02. A refused call changes nothing.
+//! The calls of document 01 over lent memories, with requests 1 and 2 of document 02. A refused call changes nothing.
 
 use crate::coin::{self, PATTERN};
 use crate::memories::{bit, Memories, Record, EXCHANGE, FIND, IDLE, ONE, STATE, UNDECIDED, VOTE, ZERO};
@@ -47,7 +47,7 @@ pub struct Ran {
     pub stop: Stop,
 }
 
-/// "Opening: 1, 2." Answers the numbers of the run, in which a phase limit of 0 has become 8.
+/// "Opening: 1, 2." Answers the numbers of the run, in which a phase limit of 0 has become 16.
 pub fn open(plan: &Numbers, start: usize, memories: &mut Memories) -> Result<Numbers, Refusal> {
     let numbers = planned(plan, start)?;
     if !memories.fit(&numbers) {

@@ -1,8 +1,9 @@
-//! Scripted runs, for the benchmark and for step files: the same calls every time, kept as memories and as a step file.
+//! Scripted runs, for the benchmark and for step files: the same calls every time, kept as memories and as calls.
 
 use crate::call::Call;
 use crate::memories::{Memories, EXCHANGE, FIND, STATE, VOTE};
 use crate::numbers::{Numbers, Sort};
+use crate::rules;
 use crate::step_file::write_record;
 use std::ops::Range;
 
@@ -19,7 +20,7 @@ pub struct Fill {
 pub struct Script {
     pub numbers: Numbers,
     pub memories: Memories,
-    pub file: Vec<u8>,
+    pub calls: Vec<Call>,
     /// The first call that was refused: it left the script in another state than its name says.
     pub refused: Option<Call>,
 }
@@ -31,9 +32,15 @@ pub fn order(second: usize) -> u64 {
 
 impl Script {
     pub fn open(numbers: &Numbers) -> Script {
-        let memories = Memories::of_run(numbers);
-        let mut script = Script { numbers: *numbers, memories, file: Vec::new(), refused: None };
-        script.step(Call::Open { plan: *numbers, start: 0 });
+        Script::opened(numbers, 0)
+    }
+
+    /// By a plan within the limits.
+    pub fn opened(plan: &Numbers, start: usize) -> Script {
+        let numbers = rules::planned(plan, start).expect("a plan within the limits");
+        let mut script =
+            Script { numbers, memories: Memories::of_run(&numbers), calls: Vec::new(), refused: None };
+        script.step(Call::Open { plan: *plan, start });
         script
     }
 
@@ -61,7 +68,13 @@ impl Script {
         if call.make(&self.numbers, &mut self.memories).is_err() {
             self.refused.get_or_insert(call);
         }
-        write_record(&mut self.file, &call);
+        self.calls.push(call);
+    }
+
+    pub fn file(&self) -> Vec<u8> {
+        let mut file = Vec::new();
+        self.calls.iter().for_each(|call| write_record(&mut file, call));
+        file
     }
 
     pub fn slot(&self, who: usize) -> usize {
@@ -105,6 +118,12 @@ impl Script {
     pub fn hearing(&self, receiver: usize, sender: usize, sort: Sort) -> Call {
         let phase = usize::from(sort.has_phases());
         Call::Hear { receiver, sender, sort: sort as usize, slot: self.slot(receiver), phase }
+    }
+
+    /// One message of this phase of the receiver's slot.
+    pub fn hear_in(&mut self, phase: usize, receiver: usize, sender: usize, sort: Sort) {
+        let slot = self.slot(receiver);
+        self.step(Call::Hear { receiver, sender, sort: sort as usize, slot, phase });
     }
 
     pub fn all_hear(&mut self, sort: Sort) {

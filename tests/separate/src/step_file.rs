@@ -7,8 +7,8 @@ use crate::refusal::Refusal;
 use crate::rules;
 use std::io::Write;
 
-/// The rehearsal program has "tables for 7 controllers, 16 slots, 8 phases and 64 tags".
-pub const REHEARSAL: Numbers = Numbers { n: 7, f: 3, slots: 16, phases: 8, room: 64 };
+/// The rehearsal program has "tables for 7 controllers, 16 slots, 8 phases and 64 tags", which "grow to 16 phases".
+pub const REHEARSAL: Numbers = Numbers { n: 7, f: 3, slots: 16, phases: 16, room: 64 };
 /// "It takes the first 65,536 bytes of its input and reads no more".
 pub const REHEARSAL_BYTES: usize = 65_536;
 

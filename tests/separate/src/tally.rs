@@ -4,15 +4,15 @@ use crate::call::{Call, Done};
 use crate::memories::{Memories, ONE, UNDECIDED, ZERO};
 use crate::notices;
 use crate::numbers::{Numbers, Sort};
+use crate::phases;
 use crate::refusal::Refusal;
 use crate::rules::{Advanced, Ran, Stop, Submitted};
 use std::collections::BTreeMap;
 use std::process::ExitCode;
 
-/// What a run can meet beside refusals and notices.
-pub const EVENTS: [&str; 34] = [
+/// What a run can meet beside refusals, notices and long slots.
+pub const EVENTS: [&str; 33] = [
     "opened",
-    "opened with phases 0",
     "submitted new",
     "submitted known",
     "relayed",
@@ -86,7 +86,8 @@ impl Tally {
         result: &Result<Done, Refusal>,
         memories: &Memories,
     ) {
-        for event in notices::met(call, numbers, result, memories) {
+        let noticed = notices::met(call, numbers, result, memories);
+        for event in noticed.into_iter().chain(phases::met(call, numbers, result, memories)) {
             self.note(event);
         }
         if let Ok(done) = result {
@@ -96,7 +97,7 @@ impl Tally {
 
     fn note_done(&mut self, call: &Call, done: &Done, memories: &Memories) {
         match *done {
-            Done::Opened(_) => self.note_opening(call),
+            Done::Opened(_) => self.note("opened"),
             Done::Submitted(Submitted::New) => self.note("submitted new"),
             Done::Submitted(Submitted::Known) => self.note("submitted known"),
             Done::Relayed => self.note("relayed"),
@@ -107,13 +108,6 @@ impl Tally {
             }
             Done::Crashed => self.note("crashed"),
             Done::RanOn(ran) => self.note_run_on(ran),
-        }
-    }
-
-    fn note_opening(&mut self, call: &Call) {
-        self.note("opened");
-        if matches!(call, Call::Open { plan, .. } if plan.phases == 0) {
-            self.note("opened with phases 0");
         }
     }
 

@@ -4,7 +4,7 @@
 
 use separate::batch::{clock, Batch, Side};
 use separate::cases::{Case, Kind, KINDS};
-use separate::numbers::Numbers;
+use separate::numbers::{Numbers, USUAL_PHASES};
 use separate::script::Fill;
 use std::env;
 use std::process::ExitCode;
@@ -112,7 +112,7 @@ fn main() -> ExitCode {
 }
 
 fn numbers(n: usize, slots: usize) -> Numbers {
-    Numbers { n, f: (n - 1) / 2, slots, phases: 8, room: 256 }
+    Numbers { n, f: (n - 1) / 2, slots, phases: USUAL_PHASES, room: 256 }
 }
 
 fn case(kind: &Kind, (n, slots, fill): Point) -> Case {

@@ -2,7 +2,8 @@
 //! ordinary and damaged memories. Answers, values and every cell of every memory must be equal after each, and each
 //! refusal of each call, each event and each kind of damage must have occurred.
 
-use separate::call::{Call, Done};
+use separate::busy::{busy_script, settle};
+use separate::call::{Answer, Call, Done};
 use separate::coin::{self, COINS, PATTERN};
 use separate::compare::{compare_play, Difference, Pair};
 use separate::damage::{any_record, lent, DAMAGES};
@@ -17,6 +18,7 @@ use separate::numbers::{
     Message, Numbers, Sort, LARGEST, MOST_PHASES, MOST_REPLICAS, MOST_SLOTS, USUAL_PHASES,
 };
 use separate::options::number;
+use separate::phases;
 use separate::random::Random;
 use separate::refusal::Refusal;
 use separate::rules::{self, Advanced};
@@ -47,7 +49,11 @@ const WIDE: Numbers = Numbers { n: MOST_REPLICAS, f: 7, slots: 2, phases: 3, roo
 fn main() -> ExitCode {
     let (seed, runs) = (number("--seed", 1), number("--runs", 1_000_000));
     let mut tally = Tally::expecting(expected());
-    let first = compare_pattern().and_then(|()| compare_further()).and_then(|()| compare_left_behind());
+    let first = compare_pattern()
+        .and_then(|()| compare_further())
+        .and_then(|()| compare_left_behind())
+        .and_then(|()| compare_phase_limits())
+        .and_then(|()| compare_busy_days(&mut tally));
     if let Err(difference) = first {
         println!("difference: {difference}");
         return ExitCode::FAILURE;
@@ -74,7 +80,7 @@ fn expected() -> impl Iterator<Item = String> {
     let damages = DAMAGES.iter().map(|(name, _)| format!("damage: {name}"));
     let others = ["other numbers than the run's", "played a step file"];
     let noticed = notices::EVENTS.into_iter().chain(notices::EVENTS_OF_DAMAGE);
-    let events = EVENTS.into_iter().chain(noticed).chain(others).chain(UNMARKED);
+    let events = EVENTS.into_iter().chain(noticed).chain(phases::EVENTS).chain(others).chain(UNMARKED);
     refusals.chain(events.map(str::to_string)).chain(damages)
 }
 
@@ -153,6 +159,43 @@ fn compare_left_behind() -> Result<(), Difference> {
     let answers = calls.map(answer);
     let right = answers == [14, 16, 16, 17, 0, 18, 0, 13] && memories.log(&run, 2, 1) == [5];
     right.then_some(()).ok_or(format!("left behind: answers {answers:?}"))
+}
+
+/// Request 2, asked of the library: what a phase limit stands for in an opening, and that 0 is none elsewhere.
+fn compare_phase_limits() -> Result<(), Difference> {
+    let mut memories = Memories::of_run(&LARGEST);
+    let plan = |phases| Numbers { n: 3, f: 1, slots: 2, phases, room: 4 };
+    for (asked, opened) in [(0, 16), (1, 1), (8, 8), (16, 16), (17, 17), (32, 32)] {
+        let answer = library::make(&Call::Open { plan: plan(asked), start: 0 }, &plan(asked), &mut memories);
+        if answer != (Answer { numbers: plan(opened), ..Answer::default() }) {
+            return Err(format!("opening with a phase limit of {asked}: {answer:?}"));
+        }
+    }
+    let mut refusal = |call: Call, numbers| library::make(&call, &numbers, &mut memories).refusal;
+    let beyond = refusal(Call::Open { plan: plan(33), start: 0 }, plan(33));
+    let step = refusal(Call::Submit { who: 0, tag: 5 }, plan(0));
+    let strip = library::fill_strip(2, 0, 0, &mut [7; 64]);
+    let right = [beyond, step, strip] == [1, 3, 1];
+    right.then_some(()).ok_or(format!("33 phases, a step and a strip of none: {beyond}, {step}, {strip}"))
+}
+
+/// Request 2's busy days, from every start of the coin and with a phase limit of 0: one on which nothing is decided until the
+/// advances of phase 16 are refused, and one that ends before it, in phase 10 to 16.
+fn compare_busy_days(tally: &mut Tally) -> Result<(), Difference> {
+    let plan = Numbers { n: 3, f: 1, slots: 2, phases: 0, room: 4 };
+    for start in 0..PATTERN {
+        let undecided = 9 + start % 7;
+        let mut ending = busy_script(&plan, start, undecided);
+        settle(&mut ending, undecided + 1);
+        for script in [ending, busy_script(&plan, start, 16)] {
+            let mut pair = Pair::of(Memories::of_run(&script.numbers));
+            for call in &script.calls {
+                let result = pair.call(call, &script.numbers)?;
+                tally.note_events(call, &script.numbers, &result, &pair.ours);
+            }
+        }
+    }
+    Ok(())
 }
 
 /// The message of the caller's own that a call rests on: the one that it would hear, or one that its advance counts.

@@ -2,23 +2,26 @@
 //! player. Every byte of output and every cell must be that of the separate implementation, and each refusal and
 //! event must have occurred.
 
+use separate::call::{Call, Done};
 use separate::compare::{compare_play, first_line, Difference};
 use separate::damage::{lent, DAMAGES};
 use separate::generate::{
-    broken_session, left_behind_session, long_session, record_places, session, wild_session,
+    broken_session, busy_session, left_behind_session, long_session, record_places, session, wild_session,
 };
 use separate::memories::Memories;
 use separate::notices;
 use separate::numbers::{Numbers, LARGEST};
 use separate::options::{number, option};
+use separate::phases;
 use separate::random::Random;
+use separate::refusal::Refusal;
 use separate::step_file::{play_seen, report, REHEARSAL, REHEARSAL_BYTES};
 use separate::tally::{Tally, EVENTS};
 use std::io::{self, Write};
 use std::process::{Command, ExitCode, Output, Stdio};
 use std::thread;
 
-const FILES: [&str; 10] = [
+const FILES: [&str; 11] = [
     "file, empty",
     "file over 65,536 bytes",
     "file of a record that ends at byte 65,536",
@@ -29,6 +32,7 @@ const FILES: [&str; 10] = [
     "played on the largest memories",
     "played with a short buffer",
     "file without an opening first",
+    "refused 2 for 17 phases alone",
 ];
 
 fn main() -> ExitCode {
@@ -48,7 +52,7 @@ fn main() -> ExitCode {
 /// A step file meets every refusal but 3: its opening leaves no record spoiled.
 fn expected() -> impl Iterator<Item = String> {
     let refusals = (1..=21).filter(|&refusal| refusal != 3).map(|refusal| format!("refused {refusal}"));
-    let events = EVENTS.into_iter().chain(notices::EVENTS).chain(FILES);
+    let events = EVENTS.into_iter().chain(notices::EVENTS).chain(phases::EVENTS).chain(FILES);
     refusals.chain(events.map(str::to_string))
 }
 
@@ -75,6 +79,7 @@ fn draw_file(random: &mut Random) -> Vec<u8> {
         1..20 => wild_session(random, &most),
         20..40 => broken_session(random, &most),
         40..46 => left_behind_session(random, &most),
+        46..52 => busy_session(random, &most),
         _ => session(random, &most),
     }
 }
@@ -134,13 +139,24 @@ fn note_file(file: &[u8], tally: &mut Tally) {
 /// Counts the refusals by the report's lines and the events by the records.
 fn note_steps(file: &[u8], tally: &mut Tally) {
     let taken = &file[..file.len().min(REHEARSAL_BYTES)];
-    let note =
-        |call: &_, numbers: &_, result: &_, memories: &_| tally.note_events(call, numbers, result, memories);
+    let note = |call: &_, numbers: &_, result: &_, memories: &_| {
+        tally.note_events(call, numbers, result, memories);
+        if is_refused_for_phases(call, result) {
+            tally.note("refused 2 for 17 phases alone");
+        }
+    };
     let played = play_seen(&REHEARSAL, taken, &mut Memories::of_run(&REHEARSAL), note);
     let text = String::from_utf8_lossy(&played.report).into_owned();
     for refusal in text.lines().filter_map(|line| line.strip_prefix("refused ")?.split(' ').nth(1)) {
         tally.note(&format!("refused {refusal}"));
     }
+}
+
+/// By the rehearsal program's tables, which hold everything else of the plan.
+fn is_refused_for_phases(call: &Call, result: &Result<Done, Refusal>) -> bool {
+    let Call::Open { plan, .. } = *call else { return false };
+    let held = plan.n <= REHEARSAL.n && plan.slots <= REHEARSAL.slots && plan.room <= REHEARSAL.room;
+    held && plan.phases == 17 && *result == Err(Refusal::ShortTable)
 }
 
 fn run(program: &str, input: &[u8]) -> io::Result<Output> {
