@@ -307,7 +307,7 @@ def explain(arguments):
 
 
 def read_arguments():
-    parser = argparse.ArgumentParser(description="Step files from readable text and back, and reports explained.")
+    parser = argparse.ArgumentParser(description=__doc__, formatter_class=argparse.RawDescriptionHelpFormatter)
     commands = parser.add_subparsers(required=True, metavar="COMMAND")
     for run, about in ((pack, "text to step file"), (unpack, "step file to text"), (explain, "a report explained")):
         command = commands.add_parser(run.__name__, help=about)

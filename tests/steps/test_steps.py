@@ -208,6 +208,13 @@ class Commands(unittest.TestCase):
         path.write_bytes(data)
         return path
 
+    def test_help_has_the_text_of_steps(self):
+        status, written, _ = command("--help")
+        said = " ".join(written.decode().split())
+        self.assertEqual(status, 0)
+        self.assertIn("opening 3 1 2 4 4 0 # n f slots phases room start; a phase limit of 0 stands for 16", said)
+        self.assertIn("16 phases and 64 tags: larger openings get refusal 2 there", said)
+
     def test_worked_session(self):
         text = ROOT / "examples" / "worked_session.txt"
         self.assertEqual(command("pack", text), (0, WORKED_BYTES, ""))
