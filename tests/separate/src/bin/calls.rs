@@ -180,7 +180,7 @@ fn compare_phase_limits() -> Result<(), Difference> {
 }
 
 /// Request 2's busy days, from every start of the coin and with a phase limit of 0: one on which nothing is decided until the
-/// advances of phase 16 are refused, and one that ends before it, in phase 10 to 16.
+/// advances of phase 16 are refused, and one that ends in phase 10 to 16.
 fn compare_busy_days(tally: &mut Tally) -> Result<(), Difference> {
     let plan = Numbers { n: 3, f: 1, slots: 2, phases: 0, room: 4 };
     for start in 0..PATTERN {
