@@ -165,7 +165,7 @@ module _ (N : Numbers) where
     rule-steady (by-begin was low ne) g = changed _ g
         (sender was Proposals 0 _ refl refl refl low g (_, ne, put-same Proposals (r .at c .closed) 0 c _ (r .sent)))
     rule-steady (by-hear so a b d e h) g = changed _ g (old c)
-    rule-steady (by-exchange was q) g = goes-on was (round-apart Exchange Idle refl) States 1 _ refl (omega arith, some) refl g
+    rule-steady (by-exchange was q) g = goes-on was (round-apart Exchange Idle refl) States 1 _ refl (omega arith, omega arith) refl g
     rule-steady (by-state was q) g = goes-on was (round-apart State Idle refl) Votes _ _ (omega arith) (stood was .phased) (vote-sent (r .at c)) g
     rule-steady (by-outcome-0 v e) g = closer (v .in-round) (round-apart Vote Idle refl) _ g
     rule-steady (by-outcome-1 v e ne) g = closer (v .in-round) (round-apart Vote Idle refl) _ g

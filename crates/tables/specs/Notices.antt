@@ -18,11 +18,11 @@ use Rattle.tables.specs.Addresses.{log-read}
 
 pub notice-yes : (closed s x : ℕ) → s < closed → notice-in closed s x ≡ Tag x
 unfolding notice-in
-notice-yes closed s x h = if-true _ _ (lt-ltb s closed h)
+notice-yes closed s x h = if-true _ _ (lt-ltb s closed (omega arith))
 
 pub notice-no : (closed s x : ℕ) → closed ≤ s → notice-in closed s x ≡ Unsent
 unfolding notice-in
-notice-no closed s x h = if-false _ _ (le-ltb s closed h)
+notice-no closed s x h = if-false _ _ (le-ltb s closed (omega arith))
 
 -- one more slot is closed: nothing else is said of another slot
 pub notice-other : (closed s x : ℕ) → s ≢ closed → notice-in (suc closed) s x ≡ notice-in closed s x
