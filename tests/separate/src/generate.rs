@@ -9,6 +9,7 @@ use crate::numbers::{
     Message, Numbers, Sort, MOST_PHASES, MOST_REPLICAS, MOST_ROOM, MOST_SLOTS, USUAL_PHASES,
 };
 use crate::random::Random;
+use crate::rules;
 use crate::script::{order, Script, ROUNDS};
 use crate::step_file::{body_length, write_record, REHEARSAL_BYTES};
 
@@ -270,9 +271,10 @@ pub fn session(random: &mut Random, most: &Numbers) -> Vec<u8> {
 pub fn busy_session(random: &mut Random, most: &Numbers) -> Vec<u8> {
     let phases = if random.one_in(2) { 0 } else { random.between(1, most.phases) };
     let plan = Numbers { n: 3, f: 1, slots: random.between(1, most.slots.min(3)), phases, room: 4 };
-    let last = if phases == 0 { USUAL_PHASES } else { phases };
+    let start = random.below(PATTERN);
+    let last = rules::planned(&plan, start).expect("a plan within the limits").phases;
     let busy = if random.one_in(3) { random.between(1, last) } else { last };
-    let mut script = busy_script(&plan, random.below(PATTERN), busy);
+    let mut script = busy_script(&plan, start, busy);
     if busy < last && random.one_in(2) {
         settle(&mut script, busy + 1);
     }
