@@ -3,11 +3,15 @@
 use Prim.Native.Nat.{ℕ, zero, suc, _<_}
 use native.Mathlib.Omega.{arith}
 use mathlib.Core.Bool.{Bool, true, false}
+use mathlib.Core.List.{List, [], _∷_}
 use mathlib.Core.Path.{_≡_, refl, sym, _∙_, ap, subst}
-use Rattle.model.specs.Types.{ReplicaId, Effect, Step}
-use Rattle.model.specs.Scripts.{Script, done, take, Stage, Played, ended, play, advance, goes-on, stopped, running, RunsOn, stops, goes}
+use Rattle.model.specs.Types.{ReplicaId, Refusal, Effect, Step}
+use Rattle.model.specs.Tests.{if}
+use Rattle.model.specs.Rack.{Rack}
+use Rattle.model.specs.TurnedAway.{Ground, unless}
+use Rattle.model.specs.Scripts.{Script, done, take, look, Stage, Played, ended, play, advance, goes-on, stopped, running, RunsOn, stops, goes}
 use Rattle.model.proofs.Branches.{if-true, if-false}
-use Rattle.model.proofs.Cases.{if-ind}
+use Rattle.model.proofs.Cases.{if-ind, unless-ind}
 
 -- what every step keeps
 pub play-keeps : {S : Type 0} (w : Stage S) (P : S → Type 0) → ((a : Step) (s : S) → P s → P (w .perform a s))
@@ -15,10 +19,26 @@ pub play-keeps : {S : Type 0} (w : Stage S) (P : S → Type 0) → ((a : Step) (
 unfolding play
 play-keeps w P step (done a) s p = p
 play-keeps w P step (take a next) s p = play-keeps w P step (next (w .judge a s)) (w .perform a s) (step a s p)
+play-keeps w P step (look next) s p =
+    unless-ind (λ (o : Played _). P (o .state)) (w .barred s) (λ _. p) (λ _. play-keeps w P step (next (w .rack s)) s p)
+
+-- two calls that are turned away alike, or else go on alike
+away-alike : {A B : Type 0} (R : A → B → Type 0) {a : Refusal → A} {b : Refusal → B} {x : A} {y : B} (gs : List Ground) → ((why : Refusal) → R (a why) (b why))
+    → R x y → R (unless a gs x) (unless b gs y)
+unfolding unless if
+away-alike R [] h k = k
+away-alike R {a} {b} {x} {y} (g ∷ gs) h k = go (g .met) (away-alike R gs h k)
+  where
+    go : (met : Bool) → R (unless a gs x) (unless b gs y) → R (if met (a (g .why)) (unless a gs x)) (if met (b (g .why)) (unless b gs y))
+    go true below = h (g .why)
+    go false below = below
 
 module _ {S T : Type 0} (w : Stage S) (v : Stage T) (Linked : S → T → Type 0)
     (same : (a : Step) (s : S) (t : T) → Linked s t → w .judge a s ≡ v .judge a t)
-    (keeps : (a : Step) (s : S) (t : T) → Linked s t → Linked (w .perform a s) (v .perform a t)) where
+    (keeps : (a : Step) (s : S) (t : T) → Linked s t → Linked (w .perform a s) (v .perform a t))
+    (seen : (s : S) (t : T) → Linked s t → w .rack s ≡ v .rack t)
+    (turned : (away : Refusal → Played S) (good : Played S) (s : S) (t : T) → Linked s t
+    → unless away (w .barred s) good ≡ unless away (v .barred t) good) where
   abbrev Alike : Played S → Played T → Type 0
   Alike p q = (p .answer ≡ q .answer) × Linked (p .state) (q .state)
 
@@ -29,6 +49,10 @@ module _ {S T : Type 0} (w : Stage S) (v : Stage T) (Linked : S → T → Type 0
   alike (take a next) s t link =
       subst (λ (e : Effect). Alike (play w (next e) (w .perform a s)) (play v (next (v .judge a t)) (v .perform a t))) (sym (same a s t link))
       (alike (next (v .judge a t)) (w .perform a s) (v .perform a t) (keeps a s t link))
+  alike (look next) s t link =
+      subst (λ (p : Played S). Alike p (play v (look next) t)) (sym (turned _ _ s t link))
+      (away-alike Alike (v .barred t) (λ why. (refl, link))
+      (subst (λ (r : Rack). Alike (play w (next r) s) (play v (next (v .rack t)) t)) (sym (seen s t link)) (alike (next (v .rack t)) s t link)))
 
 -- ---- a run on, by its first advance
 

@@ -1,23 +1,31 @@
 -- Calls built of steps. A call is a script: written once, and played on the history of a run and on the lent tables alike.
 use Prim.Native.Nat.{ℕ, zero, suc, _+_, _*_}
 use mathlib.Core.Bool.{Bool, true, false, not, _&&_}
-use mathlib.Core.List.{List}
+use mathlib.Core.List.{List, [], _∷_}
 use mathlib.Core.Path.{_≡_}
 use Rattle.model.specs.Types.{Numbers, ReplicaId, BadPlan, ShortTable, Effect, Refuse, Hold, Send, Close, Seek}
-use Rattle.model.specs.Types.{Receive, Halt, Advance, Step, Call, Open, Single, RunOn, Answer, Refused, Done, Ran}
+use Rattle.model.specs.Types.{Receive, Halt, Advance, Step, Call, Open, Single, RunOn, Conduct, Answer, Refused, Done, Ran}
+use Rattle.model.specs.Types.{Conducted}
 use Rattle.model.specs.Tests.{if, bit}
 use Rattle.model.specs.Limits.{plan-limited}
 use Rattle.model.specs.Answers.{answer-number, answer-values}
+use Rattle.model.specs.Rack.{Rack}
+use Rattle.model.specs.TurnedAway.{Ground, unless}
+use Rattle.model.specs.Conductor.{conduct-refusals, relay-steps, conduct-steps}
 
--- a script answers, or takes a step and goes on by what that comes to
+-- a script answers, or takes a step and goes on by what that comes to, or looks at the rack and goes on by what it sees
 pub data Script : Type 0 where
   done : Answer → Script
   take : Step → (Effect → Script) → Script
+  look : (Rack → Script) → Script
 
--- where a script is played: what a step comes to there, and what it leaves
+-- where a script is played: what a step comes to there, and what it leaves; the rack there, and what keeps a script from looking
+-- at it, refusals 3 and 2
 pub record Stage (S : Type 0) : Type 0 where
   pub judge : Step → S → Effect
   pub perform : Step → S → S
+  pub rack : S → Rack
+  pub barred : S → List Ground
 
 -- what a call answers, with document 01's number and values of it, and what it leaves
 pub record Played (S : Type 0) : Type 0 where
@@ -32,6 +40,7 @@ ended a s = record { answer = a; number = answer-number a; values = answer-value
 unfoldable pub play : {S : Type 0} → Stage S → Script → S → Played S
 play w (done a) s = ended a s
 play w (take a next) s = play w (next (w .judge a s)) (w .perform a s)
+play w (look next) s = unless (λ why. ended (Refused why) s) (w .barred s) (play w (next (w .rack s)) s)
 
 -- ---- what an effect tells of its step
 
@@ -84,9 +93,34 @@ most-advances N = 2 * N .phases + 5
 abbrev pub run-on : Numbers → ReplicaId → Script
 run-on N c = running c (most-advances N) 0
 
+-- ---- the conductor
+
+-- steps one after another, each whatever the one before came to; then on with the count of those that were accepted, and k:
+-- "a refused inner step .. is passed over uncounted"
+unfoldable pub take-all : List Step → ℕ → (ℕ → Script) → Script
+take-all [] k next = next k
+take-all (a ∷ steps) k next = take a (λ e. take-all steps (bit (accepted e) + k) next)
+
+-- what such steps leave on a stage, and how many are accepted there
+unfoldable pub after-all : {S : Type 0} → Stage S → List Step → S → S
+after-all w [] s = s
+after-all w (a ∷ steps) s = after-all w steps (w .perform a s)
+
+unfoldable pub accepted-of : {S : Type 0} → Stage S → List Step → S → ℕ
+accepted-of w [] s = 0
+accepted-of w (a ∷ steps) s = bit (accepted (w .judge a s)) + accepted-of w steps (w .perform a s)
+
+-- its relays and then its other steps, as the rack is at its start. "It answers both counts"
+unfoldable pub conducting : List Step → List Step → Script
+conducting relays steps = take-all relays 0 (λ k. take-all steps 0 (λ m. done (Conducted m k)))
+
+abbrev pub conduct : Numbers → Script
+conduct N = look (λ r. unless (λ why. done (Refused why)) (conduct-refusals N r) (conducting (relay-steps N r) (conduct-steps N r)))
+
 -- a call in a run. There every opening is refused: "only an accepted opening starts another". One that is refused within the
 -- limits had a short table.
 abbrev pub script : Numbers → Call → Script
 script N (Open q) = done (Refused (if (plan-limited q) ShortTable BadPlan))
 script N (Single a) = single a
 script N (RunOn c) = run-on N c
+script N Conduct = conduct N

@@ -14,15 +14,17 @@ use borrow.Author.Tests.{leb-true, ltb-false, lt-ltb, not-false}
 use Rattle.tables.specs.declared.Record.{Record}
 use Rattle.tables.specs.Types.{Numbers, Plan, ReplicaId, Sort, Proposals, States, Votes, Notices, Refusal, Effect, Refuse}
 use Rattle.tables.specs.Types.{Hold, Send, Close, Seek, Receive, Halt, Act, Submit, Relay, Begin, Hear, Advance}
-use Rattle.tables.specs.Types.{Crash, Step, Call, Open, Single, RunOn, Answer, Refused, Done, Ran, Opened}
+use Rattle.tables.specs.Types.{Crash, Step, Call, Open, Single, RunOn, Conduct, Answer, Refused, Done, Ran, Opened}
 use Rattle.model.specs.Tests.{if, some, listed}
 use Rattle.model.specs.Limits.{limited, planned}
 use Rattle.model.specs.Rules.{is-crash}
-use Rattle.model.specs.Scripts.{Script, play, answered, single, advance, running, most-advances, run-on}
+use Rattle.model.specs.Conductor.{relay-steps, conduct-steps}
+use Rattle.model.specs.Scripts.{Script, Played, play, answered, single, advance, running, most-advances, run-on, conduct}
 use Rattle.coin.specs.Strip.{StripOutcome, strip-refusals, strip-filled}
 use Rattle.coin.specs.Law.{length-filled}
 use Rattle.model.proofs.Cases.{clash, and-true, or-false, if-ind, Unmet, unless-ind, unmet-both}
 use Rattle.model.proofs.Playing.{play-keeps}
+use Rattle.model.proofs.Sequences.{conducts-by, conducted-by}
 use Rattle.safety.specs.Comes.{ByRule, by-submit, by-relay, by-begin, by-hear, by-notice, by-exchange, by-state}
 use Rattle.safety.specs.Comes.{by-outcome-0, by-outcome-1, by-seek, by-next-phase, by-find, by-crash, past}
 use Rattle.tables.specs.Layout.{Tables, known-in, record-at, record-stored, heard-cell, proposal-cell}
@@ -31,12 +33,12 @@ use Rattle.tables.specs.View.{only, view}
 use Rattle.tables.specs.Write.{place-in, proposal-stored, ballot-stored, orders-held, words-held, write}
 use Rattle.tables.specs.Checks.{lengths, long, tables-refusals, record-refusals}
 use Rattle.tables.specs.Calls.{CrashOutcome, crash-refusals, crashed, lent-refusals, judge, performed, on-tables}
-use Rattle.tables.specs.Calls.{stepped, ran-on, cleared, opened, OpenOutcome, opening-refusals, open-rack, called}
+use Rattle.tables.specs.Calls.{stepped, ran-on, conducted, cleared, opened, OpenOutcome, opening-refusals, open-rack, called}
 use Rattle.tables.specs.Addresses.{proposal-in}
 use Rattle.tables.specs.Bounds.{is-long}
 use Rattle.tables.specs.Sections.{agree-self, agree-more, elsewhere, record-elsewhere, SameHead}
 use Rattle.tables.specs.Sections.{SameRecords, SameHolders, SameHeard, SameTags, SameProposals, SameLogs}
-use Rattle.promises.specs.Order.{turned-away, step-refusals}
+use Rattle.promises.specs.Order.{turned-away, step-refusals, conductor-refusals}
 use Rattle.promises.specs.Refusals.{running-accepts}
 
 -- ---- "A refusal returns its number and changes nothing at all." Of the strip call, the crate coin proves it.
@@ -72,6 +74,14 @@ module _ (N : Numbers) (strip : List ℕ) where
   unfolding ran-on
   refused-run-on-unchanged c t why q = stays c t why (most-advances N) q
 
+  pub refused-conduct-unchanged : (t : Tables) (why : Refusal) → conducted N strip t .answer ≡ Refused why → conducted N strip t .state ≡ t
+  unfolding conducted
+  refused-conduct-unchanged t why = let r = view N t in
+      subst (λ (o : Played Tables). o .answer ≡ Refused why → o .state ≡ t) (sym (conducts-by (on-tables N strip) N t))
+      (unless-ind (λ (o : Played Tables). o .answer ≡ Refused why → o .state ≡ t) (conductor-refusals N strip t) (λ w e. refl)
+      (λ _. accepting _ (ap (λ (o : Played Tables). turned-away (o .answer))
+      (conducted-by (on-tables N strip) (relay-steps N r) (conduct-steps N r) t)) why))
+
 pub refused-crash-unchanged : (N : Numbers) (c : ℕ) (k : Record) (why : Refusal) → crashed N c k .answer ≡ Refused why → crashed N c k .after ≡ k
 unfolding crashed
 refused-crash-unchanged N c k why =
@@ -89,6 +99,7 @@ unfolding called
 refused-unchanged N (Open q) t strip why e = refused-opening-unchanged q t strip why e
 refused-unchanged N (Single a) t strip why e = (refused-step-unchanged N strip a t why e, refl)
 refused-unchanged N (RunOn c) t strip why e = (refused-run-on-unchanged N strip c t why e, refl)
+refused-unchanged N Conduct t strip why e = (refused-conduct-unchanged N strip t why e, refl)
 
 -- ---- lengths
 
@@ -147,6 +158,10 @@ module _ (N : Numbers) (strip : List ℕ) where
   unfolding ran-on
   run-on-lengths-kept c t = script-lengths (run-on N c) t
 
+  pub conduct-lengths-kept : (t : Tables) → lengths (conducted N strip t .state) ≡ lengths t
+  unfolding conducted
+  conduct-lengths-kept t = script-lengths (conduct N) t
+
 pub opening-lengths-kept : (q : Plan) (t : Tables) (strip : List ℕ)
     → (lengths (open-rack q t strip .tables) ≡ lengths t) × (length (open-rack q t strip .strip) ≡ length strip)
 unfolding open-rack Unmet
@@ -167,6 +182,7 @@ unfolding called
 lengths-kept N (Open q) t strip = opening-lengths-kept q t strip
 lengths-kept N (Single a) t strip = (step-lengths-kept N strip a t, refl)
 lengths-kept N (RunOn c) t strip = (run-on-lengths-kept N strip c t, refl)
+lengths-kept N Conduct t strip = (conduct-lengths-kept N strip t, refl)
 
 -- ---- the sections that a step may change
 

@@ -1,4 +1,4 @@
--- Document 01, "Turned-away steps": the refusals of every call, as the definitions list them; that their order is the one of
+-- Document 01, "Turned-away steps", and document 02: the refusals of every call, as the definitions list them; that their order is the one of
 -- the paragraph "Order."; and what it means that a call is turned away by such a list. specs/Refusals proves that every call
 -- is.
 use Prim.Native.Nat.{ℕ}
@@ -9,19 +9,21 @@ use mathlib.Core.Path.{_≡_, refl, ap}
 use Rattle.tables.specs.declared.Record.{Record}
 use Rattle.tables.specs.Types.{Numbers, Plan, Idle, Exchange, State, Vote, Find, Sort, Word, Refusal, Effect, Refuse}
 use Rattle.tables.specs.Types.{Hold, Send, Close, Seek, Receive, Halt, Message, Act, Submit, Relay, Begin}
-use Rattle.tables.specs.Types.{Crash, Step, Call, Open, Single, RunOn, Answer, Refused, Done, Ran, Opened}
+use Rattle.tables.specs.Types.{Crash, Step, Call, Open, Single, RunOn, Conduct, Answer, Refused, Done, Ran, Opened}
+use Rattle.tables.specs.Types.{Conducted}
 use Rattle.model.specs.Tests.{if}
 use Rattle.model.specs.Answers.{refusal-number}
 use Rattle.model.specs.Rack.{is-sent, Rack, Replica}
 use Rattle.model.specs.TurnedAway.{Ground, Rule}
 use Rattle.model.specs.Rules.{advance-rule, heed, hear-rule, own-rule, first-refusals, rule}
 use Rattle.model.proofs.Branches.{if-true, if-false}
+use Rattle.model.specs.Conductor.{conduct-refusals}
 use Rattle.model.specs.Scripts.{advance}
 use Rattle.coin.specs.Strip.{strip-refusals}
 use Rattle.tables.specs.Layout.{Tables}
 use Rattle.tables.specs.View.{view}
 use Rattle.tables.specs.Checks.{tables-refusals, record-refusals}
-use Rattle.tables.specs.Calls.{crash-refusals, lent-refusals, opening-refusals}
+use Rattle.tables.specs.Calls.{crash-refusals, lent-refusals, tables-barred, opening-refusals}
 
 -- "Each is returned when its condition is met and no earlier one is, and at no other time."
 unfoldable pub first-met : List Ground → Option Refusal
@@ -34,20 +36,24 @@ refusal-of =
     elim [ Refuse why ↦ just why | Hold x ↦ none | Send so p w ↦ none | Close x ↦ none | Seek ↦ none | Receive so s p d w ↦ none | Halt ↦ none ]
 
 abbrev pub turned-away : Answer → Option Refusal
-turned-away = elim [ Refused why ↦ just why | Done ↦ none | Ran k ↦ none | Opened N ↦ none ]
+turned-away = elim [ Refused why ↦ just why | Done ↦ none | Ran k ↦ none | Opened N ↦ none | Conducted k m ↦ none ]
 
 -- ---- the refusals of every call
 
 abbrev pub step-refusals : Numbers → List ℕ → Step → Tables → List Ground
 step-refusals N strip a t = lent-refusals N a t ++ rule N strip a (view N t) .refusals
 
+abbrev pub conductor-refusals : Numbers → List ℕ → Tables → List Ground
+conductor-refusals N strip t = tables-barred N strip t ++ conduct-refusals N (view N t)
+
 -- "advance and run on 13, 14, 15"
 abbrev pub call-refusals : Numbers → Call → Tables → List ℕ → List Ground
 call-refusals N (Open q) t strip = opening-refusals q t strip
 call-refusals N (Single a) t strip = step-refusals N strip a t
 call-refusals N (RunOn c) t strip = step-refusals N strip (advance c) t
+call-refusals N Conduct t strip = conductor-refusals N strip t
 
--- ---- their order, by document 01's numbers
+-- ---- their order, by the documents' numbers
 
 abbrev order : List Ground → List ℕ
 order = map (λ (g : Ground). refusal-number (g .why))
@@ -73,6 +79,10 @@ module _ (N : Numbers) where
 
   pub firsts : (strip : List ℕ) (a : Step) (r : Rack) → order (first-refusals N strip a r) ≡ 2 ∷ 4 ∷ 5 ∷ []
   firsts strip a r = refl
+
+  -- document 02: "Turned away: 3, 2, 23 "too few lit" .., 22 "not level" .., 11, 12, in this order": 2 of the tables, then of the strip
+  pub conducts : (strip : List ℕ) (t : Tables) → order (conductor-refusals N strip t) ≡ 3 ∷ 2 ∷ 2 ∷ 23 ∷ 22 ∷ 11 ∷ 12 ∷ []
+  conducts strip t = refl
 
   module _ (strip : List ℕ) (r : Rack) (k : Replica) where
     abbrev own : Act → List ℕ

@@ -1,33 +1,31 @@
--- Every call is refused by the first of its refusals, in document 01's order, whose condition is met, and only so.
-use Prim.Native.Nat.{ℕ, zero, suc, _+_, _≤_, _<_}
+-- Every call is refused by the first of its refusals, in the documents' order, whose condition is met, and only so.
+use Prim.Native.Nat.{ℕ, zero, suc, _≤_, _<_}
 use native.Mathlib.Omega.{arith}
 use mathlib.Core.Bool.{Bool, true, false}
 use mathlib.Core.List.{List, [], _∷_}
 use mathlib.Core.Option.{Option, some as just, none}
 use mathlib.Core.Path.{_≡_, refl, _∙_, ap}
-use lib.Dec.{ltb, eqb}
 use lib.ListN.{length}
-use borrow.Author.Tests.{ltb-true, ltb-false, le-ltb, le-leb, lt-leb}
 use Rattle.tables.specs.declared.Record.{Record}
 use Rattle.tables.specs.Types.{Numbers, Plan, ReplicaId, Refusal, Effect, Refuse, Hold, Send, Close, Seek}
-use Rattle.tables.specs.Types.{Receive, Halt, Act, Crash, Step, Call, Open, Single, RunOn, Answer, Done, Ran}
+use Rattle.tables.specs.Types.{Receive, Halt, Act, Crash, Step, Call, Open, Single, RunOn, Conduct, Answer, Done, Ran}
 use Rattle.model.specs.Tests.{if}
 use Rattle.model.specs.Rack.{Rack, Replica}
 use Rattle.model.specs.TurnedAway.{Ground, unless}
-use Rattle.model.specs.Limits.{limited}
-use Rattle.model.specs.Rules.{own-rule, rule}
+use Rattle.model.specs.Rules.{rule}
+use Rattle.model.specs.Conductor.{relay-steps, conduct-steps}
 use Rattle.model.specs.Scripts.{Script, play, answered, advance, goes-on, running, most-advances, Played}
 use Rattle.model.proofs.Cases.{clash, if-ind, Unmet, unmet-both}
+use Rattle.model.proofs.Sequences.{conducts-by, conducted-by}
 use Rattle.safety.specs.Comes.{ByRule, by-submit, by-relay, by-begin, by-hear, by-notice, by-exchange, by-state}
 use Rattle.safety.specs.Comes.{by-outcome-0, by-outcome-1, by-seek, by-next-phase, by-find, by-crash, past}
 use Rattle.coin.specs.Strip.{StripOutcome, strip-refusals, strip-filled}
 use Rattle.tables.specs.Layout.{Tables, record-end, record-at}
 use Rattle.tables.specs.View.{only, view}
-use Rattle.tables.specs.Checks.{spoiled}
 use Rattle.tables.specs.Calls.{CrashOutcome, crash-refusals, crashed, lent-refusals, judge, performed}
-use Rattle.tables.specs.Calls.{on-tables, stepped, ran-on, OpenOutcome, opening-refusals, open-rack, called}
+use Rattle.tables.specs.Calls.{on-tables, stepped, ran-on, conducted, OpenOutcome, opening-refusals, open-rack, called}
 use Rattle.tables.specs.Crashes.{crash-in-place}
-use Rattle.promises.specs.Order.{first-met, refusal-of, turned-away, step-refusals, call-refusals}
+use Rattle.promises.specs.Order.{first-met, refusal-of, turned-away, step-refusals, conductor-refusals, call-refusals}
 
 -- "Each is returned when its condition is met and no earlier one is, and at no other time": of every list of refusals, before
 -- whatever is accepted where none is met
@@ -108,6 +106,15 @@ module _ (N : Numbers) (strip : List ℕ) where
   unfolding ran-on
   run-on-answers c t = running-refuses c (most-advances N) t (omega arith) ∙ step-refuses (advance c) t
 
+  -- ---- the conductor
+
+  pub conduct-answers : (t : Tables) → turned-away (conducted N strip t .answer) ≡ first-met (conductor-refusals N strip t)
+  unfolding conducted
+  conduct-answers t = let r = view N t in
+      ap (λ (o : Played Tables). turned-away (o .answer)) (conducts-by (on-tables N strip) N t)
+      ∙ first-returned (λ (o : Played Tables). turned-away (o .answer)) _ _ (λ why. refl) (conductor-refusals N strip t)
+      (λ _. ap (λ (o : Played Tables). turned-away (o .answer)) (conducted-by (on-tables N strip) (relay-steps N r) (conduct-steps N r) t))
+
 -- ---- the other calls
 
 pub crash-answers : (N : Numbers) (c : ℕ) (k : Record) → turned-away (crashed N c k .answer) ≡ first-met (crash-refusals N c k)
@@ -136,3 +143,4 @@ unfolding called
 call-answers N (Open q) t strip = opening-answers q t strip
 call-answers N (Single a) t strip = step-answers N strip a t
 call-answers N (RunOn c) t strip = run-on-answers N strip c t
+call-answers N Conduct t strip = conduct-answers N strip t

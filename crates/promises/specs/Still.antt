@@ -1,9 +1,10 @@
--- An accepted step other than a crash leaves memories that pass refusals 3 and 2 again, and every replica as running as it was.
-use Prim.Native.Nat.{ℕ, suc, _≤_, _<_, _^_}
+-- An accepted step other than a crash leaves memories that pass refusals 3 and 2 again, and every replica as running as it was; so
+-- does every list of steps that has no crash.
+use Prim.Native.Nat.{ℕ, zero, suc, _≤_, _<_, _^_}
 use native.Mathlib.Omega.{arith}
 use native.Mathlib.Decide.{ℕ-discrete}
-use mathlib.Core.Bool.{Bool, true, false, not, _&&_, _||_}
-use mathlib.Core.List.{List}
+use mathlib.Core.Bool.{Bool, true, false, not, _||_}
+use mathlib.Core.List.{List, [], _∷_, _++_}
 use mathlib.Core.Logic.{_⊎_, inl, inr, ⊎-elim}
 use mathlib.Core.Path.{_≡_, refl, sym, _∙_, ap, ap₂, subst}
 use lib.Dec.{leb}
@@ -15,8 +16,9 @@ use Rattle.tables.specs.Types.{Numbers, Round, Idle, Exchange, State, Vote, Fin
 use Rattle.model.specs.Tests.{listed}
 use Rattle.model.specs.Rack.{same-round, round-of, Replica}
 use Rattle.model.specs.Rules.{is-crash, phase-in}
-use Rattle.model.specs.Scripts.{play, accepted}
-use Rattle.model.proofs.Cases.{clash, and-none, if-ind, unless-ind, unmet-both}
+use Rattle.model.specs.Conductor.{for-each}
+use Rattle.model.specs.Scripts.{play, accepted, after-all}
+use Rattle.model.proofs.Cases.{clash, either, and-none, if-ind, unless-ind, unmet-both}
 use Rattle.model.proofs.Counting.{any-nowhere}
 use Rattle.safety.specs.Comes.{ByRule, by-submit, by-relay, by-begin, by-hear, by-notice, by-exchange, by-state}
 use Rattle.safety.specs.Comes.{by-outcome-0, by-outcome-1, by-seek, by-next-phase, by-find, by-crash, past}
@@ -24,9 +26,9 @@ use Rattle.tables.specs.Layout.{Tables, known-cell, known-in, record-end, recor
 use Rattle.tables.specs.View.{view}
 use Rattle.tables.specs.Records.{other-record, same-record}
 use Rattle.tables.specs.Sections.{elsewhere, record-elsewhere, record-agrees}
-use Rattle.tables.specs.Write.{moved, entered, words-held, words-sent, words-closed, write}
+use Rattle.tables.specs.Write.{moved, entered, words-held, words-sent, words-closed, write, unstored}
 use Rattle.tables.specs.Checks.{lengths, misplaced, spoiled, any-spoiled}
-use Rattle.tables.specs.Calls.{lent-refusals, judge, performed, stepped}
+use Rattle.tables.specs.Calls.{lent-refusals, judge, performed, on-tables, stepped}
 use Rattle.tables.specs.Bounds.{Long}
 use Rattle.tables.specs.Addresses.{state-in}
 use Rattle.tables.specs.Sound.{moved-fine, Sound, lent-sound, record-there, own-unspoiled, stands, own-view, seen-low, noticed-low}
@@ -202,3 +204,35 @@ module _ (N : Numbers) (strip : List ℕ) (a : Step) (t : Tables) where
 pub still-fine : (N : Numbers) (strip : List ℕ) (a : Step) (t : Tables) → is-crash (a .act) ≡ false → accepted (judge N strip a t) ≡ true
     → StillFine N t (performed N strip a t)
 still-fine N strip a t no-crash h = judged N strip a t no-crash (same-lengths N strip a t) h
+
+-- ---- any list of such steps
+
+-- no step of a list is a crash
+unfoldable pub Calm : List Step → Type 0
+Calm [] = Unit {0}
+Calm (a ∷ steps) = (is-crash (a .act) ≡ false) × Calm steps
+
+pub calm-one : (a : Step) → is-crash (a .act) ≡ false → Calm (a ∷ [])
+unfolding Calm
+calm-one a e = (e, tt)
+
+pub calm-then : (xs ys : List Step) → Calm xs → Calm ys → Calm (xs ++ ys)
+unfolding Calm
+calm-then [] ys a b = b
+calm-then (x ∷ xs) ys a b = (a .0, calm-then xs ys (a .1) b)
+
+pub calm-each : (k : ℕ) (ok : ℕ → Bool) (steps : ℕ → List Step) → ((c : ℕ) → Calm (steps c)) → Calm (for-each k ok steps)
+unfolding for-each Calm
+calm-each zero ok steps all = tt
+calm-each (suc k) ok steps all = calm-then (for-each k ok steps) _ (calm-each k ok steps all) (if-ind Calm (ok k) (λ _. all k) (λ _. tt))
+
+pub still-after : (N : Numbers) (strip : List ℕ) (steps : List Step) (t : Tables) → Calm steps → Sound N t
+    → StillFine N t (after-all (on-tables N strip) steps t)
+unfolding after-all Calm
+still-after N strip [] t calm fine = record { fine = fine; alike = λ d h. refl }
+still-after N strip (a ∷ steps) t calm fine =
+    let u = performed N strip a t in
+    let next : StillFine N t u = either (accepted (judge N strip a t)) (λ e. still-fine N strip a t (calm .0) e)
+    (λ e. subst (StillFine N t) (unstored N (a .who .0) t (judge N strip a t) e) (record { fine = fine; alike = λ d h. refl })) in
+    let rest = still-after N strip steps u (calm .1) (next .fine) in
+    record { fine = rest .fine; alike = λ d h. rest .alike d h ∙ next .alike d h }

@@ -7,7 +7,7 @@ use native.Mathlib.Omega.{arith}
 use native.Mathlib.Nat.{le-refl}
 use native.Mathlib.Decide.{ℕ-discrete, decLt}
 use mathlib.Core.Bool.{Bool, true, false, not, _&&_}
-use mathlib.Core.List.{List, [], _∷_}
+use mathlib.Core.List.{List}
 use mathlib.Core.Logic.{_⊎_, inl, inr, ⊎-elim, _≢_}
 use mathlib.Core.Option.{Option}
 use mathlib.Core.Path.{_≡_, refl, sym, _∙_, ap, subst}
@@ -16,18 +16,19 @@ use borrow.Author.Tests.{eqb-true, eqb-false, eq-eqb, ne-eqb, leb-true, leb-fals
 use Rattle.safety.specs.Types.{Numbers, Round, Idle, Exchange, State, Vote, Find, Sort, Proposals, States, Votes}
 use Rattle.safety.specs.Types.{Notices, Word, Tag, Outcome, Undecided, Decided, TooFewHeard, PhasesUsedUp, Effect, Refuse}
 use Rattle.safety.specs.Types.{Message, Act, Relay, Begin, Hear, Advance, Step}
-use Rattle.model.specs.Tests.{count, any, some, listed}
+use Rattle.model.specs.Tests.{count, any, some}
 use Rattle.model.specs.Rack.{sort-number, round-of, is, is-sent, tag-of, Replica, Rack}
-use Rattle.model.specs.TurnedAway.{Ground, unless, Rule, settle}
-use Rattle.model.specs.Rules.{is-crash, earlier, first-of, logged, pending, next-tag, seen, quorum, majority, heard-count, tally}
+use Rattle.model.specs.TurnedAway.{unless, Rule, settle}
+use Rattle.model.specs.Rules.{is-crash, logged, pending, next-tag, seen, quorum, majority, heard-count, tally}
 use Rattle.model.specs.Rules.{majority-among, majority-tag, notice, outcome, conclude, phases-used-up, advance-rule, heed, phase-in}
 use Rattle.model.specs.Rules.{hear-rule, own-rule, from-nobody, first-refusals, decide}
 use Rattle.model.specs.Scripts.{accepted}
 use Rattle.model.proofs.Branches.{if-false, when-met, when-missed}
-use Rattle.model.proofs.Cases.{clash, either, and-true, and-both, and-none, or-true, or-false, or-none, if-ind, Unmet, unmet-past}
+use Rattle.model.proofs.Cases.{clash, either, and-true, and-both, and-none, or-none, if-ind, Unmet, none-met, unmet-past}
 use Rattle.model.proofs.Cases.{round-apart, sort-back, is-true, is-yes}
 use Rattle.model.proofs.Counting.{any-false, any-nowhere, any-place}
 use Rattle.model.proofs.FirstSent.{first-there}
+use Rattle.model.proofs.FirstTag.{first-of-leads}
 use Rattle.safety.specs.Claims.{moves, LongStrip, by-rules, CanMove, UsedUp}
 use Rattle.safety.specs.Board.{one-tag, tagged}
 use Rattle.safety.specs.Comes.{Acts}
@@ -42,54 +43,33 @@ use Rattle.safety.specs.Steady.{Due, Phased, SteadyRack}
 abbrev Goes : Rule → Type 0
 Goes x = Unmet (x .refusals) × (accepted (x .effect) ≡ true)
 
-settles : (gs : List Ground) (e : Effect) → Unmet gs → unless Refuse gs e ≡ e
-unfolding unless Unmet
-settles [] e u = refl
-settles (g ∷ gs) e u = if-false _ _ (u .0) ∙ settles gs e (u .1)
-
 passes : (x : Rule) → Goes x → accepted (settle x) ≡ true
-passes x (u, e) = ap accepted (settles (x .refusals) (x .effect) u) ∙ e
-
--- ---- a tag that is pending is found
-
-earlier-some : (x y : ℕ) → x ≢ 0 → earlier x y ≢ 0
-unfolding earlier
-earlier-some x y ne = if-ind (λ (a : ℕ). a ≢ 0) _ (λ _. ne) (λ e. eqb-false y 0 (or-false (eqb y 0) _ e .0))
-
-first-some : (ok : ℕ → Bool) (xs : List ℕ) (x : ℕ) → x ≢ 0 → ok x ≡ true → listed x xs ≡ true → first-of ok xs ≢ 0
-unfolding first-of some
-first-some ok [] x ne q e = clash e
-first-some ok (y ∷ ys) x ne q e = if-ind (λ (a : ℕ). a ≢ 0) (ok y && not (eqb y 0))
-    (λ h. earlier-some y _ (eqb-false y 0 (not-true _ (and-true (ok y) _ h .1))))
-    (λ h. first-some ok ys x ne q (⊎-elim (λ i. clash (sym h ∙ here (eqb-true x y i))) (λ i. i) (or-true (eqb x y) _ e)))
-  where
-    here : x ≡ y → (ok y && not (eqb y 0)) ≡ true
-    here z = and-both (ok y) _ (ap ok (sym z) ∙ q) (ap not (ne-eqb y 0 (λ w. ne (z ∙ w))))
+passes x (u, e) = ap accepted (none-met Refuse (x .effect) (x .refusals) u) ∙ e
 
 module _ (N : Numbers) where
   open Numbers N using (n, f, slots, phases)
 
   -- ---- a tag that has a majority among the proposals heard is found
 
-  found : (k : Replica) (x : ℕ) → x ≢ 0 → majority N ≤ tally N k Proposals 0 (Tag x) → (j d : ℕ) → d < j → seen k Proposals 0 d ≡ Tag x
-      → majority-among N k j ≢ 0
+  found : (k : Replica) (x : ℕ) → majority N ≤ tally N k Proposals 0 (Tag x) → (j d : ℕ) → d < j → seen k Proposals 0 d ≡ Tag x
+      → majority-among N k j ≡ x
   unfolding majority-among
-  found k x ne most zero d l e = absurd (omega arith)
-  found k x ne most (suc j) d l e = if-ind (λ (y : ℕ). y ≢ 0) (leb (majority N) (tally N k Proposals 0 (Tag (tag-of (seen k Proposals 0 j)))))
-      (λ t z. ne (one-tag N (k .inbox) (k .closed) most (leb-true _ _ t) ∙ z))
-      (λ t. go t (ℕ-discrete d j) (found k x ne most j d))
+  found k x most zero d l e = absurd (omega arith)
+  found k x most (suc j) d l e = if-ind (λ (y : ℕ). y ≡ x) (leb (majority N) (tally N k Proposals 0 (Tag (tag-of (seen k Proposals 0 j)))))
+      (λ t. one-tag N (k .inbox) (k .closed) (leb-true _ _ t) most)
+      (λ t. go t (ℕ-discrete d j) (found k x most j d))
     where
       go : leb (majority N) (tally N k Proposals 0 (Tag (tag-of (seen k Proposals 0 j)))) ≡ false → Dec (d ≡ j)
-          → (d < j → seen k Proposals 0 d ≡ Tag x → majority-among N k j ≢ 0) → majority-among N k j ≢ 0
+          → (d < j → seen k Proposals 0 d ≡ Tag x → majority-among N k j ≡ x) → majority-among N k j ≡ x
       go t (no apart) below = below (omega arith) e
       go t (yes q) below =
           let same : tag-of (seen k Proposals 0 j) ≡ x = ap (λ (d : ℕ). tag-of (seen k Proposals 0 d)) (sym q) ∙ ap tag-of e in
           clash (sym t ∙ ap (λ (y : ℕ). leb (majority N) (tally N k Proposals 0 (Tag y))) same ∙ le-leb _ _ most)
 
-  majority-found : (k : Replica) (x : ℕ) → x ≢ 0 → majority N ≤ tally N k Proposals 0 (Tag x) → majority-tag N k ≢ 0
-  majority-found k x ne most =
+  pub majority-found : (k : Replica) (x : ℕ) → majority N ≤ tally N k Proposals 0 (Tag x) → majority-tag N k ≡ x
+  majority-found k x most =
       let (d, l, e) = some-below n (λ d. is (Tag x) (seen k Proposals 0 d)) (omega arith) in
-      found k x ne most n d l (sym (is-true _ _ e))
+      found k x most n d l (sym (is-true _ _ e))
 
   -- a vote round that its phases allow to go on is accepted
   concludes : (flip : Bool) (k : Replica) (o : Outcome) → accepted (conclude N flip k o) ≡ true
@@ -105,6 +85,16 @@ module _ (N : Numbers) where
   due-in Votes p h = and-both _ _ (le-leb 1 p (h .0)) (le-leb p phases (h .1))
   due-in Notices p h = absurd h
 
+  -- a running replica's step comes to what its own rule says
+  abbrev by : ℕ → Act → Step
+  by c a = record { who = record { 0 = c }; act = a }
+
+  pub through : (r : Rack) (c : ℕ) → Acts N r c → (strip : List ℕ) → LongStrip N strip → (a : Act) → from-nobody N a ≡ false
+      → decide N strip (by c a) r ≡ settle (own-rule N strip a r (r .at c))
+  unfolding decide Unmet
+  through r c acts strip long a somebody = unmet-past Refuse _ (first-refusals N strip (by c a) r) _
+      (and-none (not (is-crash a)) _ (le-ltb _ _ long), (or-none (leb n c) _ (lt-leb _ _ (acts .there)) somebody, (acts .running, tt)))
+
   module _ (fits : f + f + 1 ≤ n) (r : Rack) (inv : Invariant N r) (steady : SteadyRack N r) where
     abbrev Goal : Type 0
     Goal = CanMove N (by-rules N r) ⊎ UsedUp N (by-rules N r)
@@ -115,17 +105,9 @@ module _ (N : Numbers) where
       abbrev k : Replica
       k = r .at c
 
-      abbrev by : Act → Step
-      by a = record { who = record { 0 = c }; act = a }
-
-      through : (strip : List ℕ) → LongStrip N strip → (a : Act) → from-nobody N a ≡ false → decide N strip (by a) r ≡ settle (own-rule N strip a r k)
-      unfolding decide Unmet
-      through strip long a somebody = unmet-past Refuse _ (first-refusals N strip (by a) r) _
-          (and-none (not (is-crash a)) _ (le-ltb _ _ long), (or-none (leb n c) _ (lt-leb _ _ (acts .there)) somebody, (acts .running, tt)))
-
       can : (a : Act) → moves a ≡ true → from-nobody N a ≡ false → ((strip : List ℕ) → accepted (settle (own-rule N strip a r k)) ≡ true)
           → CanMove N (by-rules N r)
-      can a counts somebody h = record { step = by a; counts = counts; goes = λ strip long. ap accepted (through strip long a somebody) ∙ h strip }
+      can a counts somebody h = record { step = by c a; counts = counts; goes = λ strip long. ap accepted (through r c acts strip long a somebody) ∙ h strip }
 
       -- a message of its slot
       can-hear : (so : Sort) (p d : ℕ) → k .closed < slots → phase-in N so p ≡ true → d < n → is-sent (r .sent so (k .closed) p d) ≡ true
@@ -170,7 +152,7 @@ module _ (N : Numbers) where
               (λ t h. ne-eqb (k .entry t) x (λ e. el .unused t h (same-entry N fits r inv d c t (omega arith) h ∙ e)))
 
           waiting : k .held x ≡ true → next-tag (r .known) k ≢ 0
-          waiting held = first-some (pending k) (r .known) x ne (and-both (k .held x) _ held (ap not unlogged)) (el .known-tag)
+          waiting held = first-of-leads (pending k) (r .known) x (el .known-tag) (and-both (k .held x) _ held (ap not unlogged)) ne .0
 
       -- ---- it is in the find round: a majority proposed one tag, and crashed replicas can be heard too
 
@@ -181,7 +163,7 @@ module _ (N : Numbers) where
       unfolding advance-rule Unmet phase-in
       finds was = let (x, ne, most) = tagged N (r .sent) (inv .grounded) fits _ _ (inv .replica c .finding was) in
           either (leb (majority N) (tally N k Proposals 0 (Tag x)))
-          (λ t. in-round was (λ flip. ((ne-eqb _ 0 (majority-found k x ne (leb-true _ _ t)), tt), refl)))
+          (λ t. in-round was (λ flip. ((ne-eqb _ 0 (λ z. ne (sym (majority-found k x (leb-true _ _ t)) ∙ z)), tt), refl)))
           (λ t. let (d, there, a, b) = differ-below n (λ d. is (Tag x) (r .sent Proposals (k .closed) 0 d)) (λ d. is (Tag x) (seen k Proposals 0 d))
           (omega (arith, leb-false (majority N) (tally N k Proposals 0 (Tag x)) t)) in
           let said = sym (is-true _ _ a) in
@@ -195,7 +177,7 @@ module _ (N : Numbers) where
       votes was q = either (phases-used-up N k .met)
           (λ used. either (is-sent (notice N k)) (λ heard. inl (can-advance (λ none. clash (sym none ∙ heard)))) (λ none. inr (record {
             who = record { 0 = c };
-            refused = λ strip long. through strip long Advance refl ∙ ap settle (if-false _ _ none ∙ ap (advance-rule N _ k) was)
+            refused = λ strip long. through r c acts strip long Advance refl ∙ ap settle (if-false _ _ none ∙ ap (advance-rule N _ k) was)
                 ∙ when-missed Refuse TooFewHeard _ _ (le-ltb _ _ q) ∙ when-met Refuse PhasesUsedUp _ _ used;
           })))
           (λ goes. inl (in-round was (λ flip. ((le-ltb _ _ q, (goes, tt)), concludes flip k (outcome N k)))))

@@ -1,7 +1,8 @@
 -- What is known of a record that is not spoiled, and of memories where refusals 3 and 2 of a step are not met.
 use Prim.Native.Nat.{ℕ, _≤_, _<_}
 use native.Mathlib.Omega.{arith}
-use mathlib.Core.Bool.{Bool, true, false, not, _&&_, _||_, false≢true}
+use mathlib.Core.Bool.{Bool, true, false, not, _&&_, _||_}
+use mathlib.Core.List.{List}
 use mathlib.Core.Path.{_≡_, refl, sym, _∙_, ap, ap₂, subst}
 use lib.Dec.{leb, ltb}
 use lib.ListN.{length}
@@ -12,7 +13,7 @@ use Rattle.model.specs.Limits.{limited}
 use Rattle.model.specs.Rack.{round-number, round-in, same-round, is-sent, Replica}
 use Rattle.model.specs.Rules.{is-crash, phase-in, seen, notice}
 use Rattle.model.proofs.Branches.{if-true}
-use Rattle.model.proofs.Cases.{clash, or-false, Unmet, round-back}
+use Rattle.model.proofs.Cases.{clash, or-false, or-none, Unmet, round-back}
 use Rattle.model.proofs.Counting.{any-false}
 use Rattle.model.proofs.FirstSent.{first-found}
 use Rattle.tables.specs.Layout.{Tables, known-in, record-end, record-at}
@@ -20,7 +21,7 @@ use Rattle.tables.specs.View.{only, replica-at, view}
 use Rattle.tables.specs.Write.{moved}
 use Rattle.tables.specs.Checks.{lengths, misplaced, spoiled, spoiled-at, any-spoiled, tables-refusals, record-refusals}
 use Rattle.tables.specs.Addresses.{guarded-sent}
-use Rattle.tables.specs.Bounds.{Bounds, bounds, Long, is-long}
+use Rattle.tables.specs.Bounds.{Bounds, bounds, within-limits, Long, is-long, long-enough}
 use Rattle.tables.specs.Calls.{lent-refusals}
 
 -- ---- a round, slot and phase that go together
@@ -73,6 +74,16 @@ moved-fine N a s p k e = ap₂ (λ (x y : Bool). x || y) (le-ltb 4 (round-number
 module _ (N : Numbers) where
   open Numbers N using (n, room)
 
+  -- where no record is spoiled, one that is there is not, and its round, slot and phase go together
+  module _ (ws : List ℕ) {c : ℕ} (there : c < n) (long : record-end c ≤ length ws) (e : any-spoiled N ws ≡ false) where
+    pub unspoiled-there : spoiled N (record-at ws c) ≡ false
+    unfolding any-spoiled
+    unspoiled-there = sym (ap (λ (b : Bool). b && spoiled N (record-at ws c)) (le-leb _ _ long)) ∙ any-false n (spoiled-at N ws) e c there
+
+    pub unspoiled-stands : let k = record-at ws c in misplaced N (round-in (k .round)) (k .slot) (k .phase) ≡ false
+    unfolding spoiled
+    unspoiled-stands = or-false (ltb 4 (record-at ws c .round)) _ unspoiled-there .1
+
   pub record Sound (t : Tables) : Type 0 where
     pub within : Bounds N
     pub known : known-in (t .words) ≤ room
@@ -87,6 +98,14 @@ module _ (N : Numbers) where
       let (many, any) = or-false (ltb room (known-in (t .words))) _ rest in
       record { within = bounds N (not-false _ limits); known = ltb-false _ _ many; unspoiled = any; long = is-long N (lengths t) (not-false _ short) }
 
+  -- and back: memories that pass
+  pub sound-unmet : {t : Tables} → Sound t → Unmet (tables-refusals N t)
+  unfolding Unmet
+  sound-unmet {t} fine = (
+    or-none _ _ (ap not (within-limits N (fine .within))) (or-none _ _ (le-ltb _ _ (fine .known)) (fine .unspoiled)),
+    (ap not (long-enough N (lengths t) (fine .long)), tt),
+  )
+
   pub lent-sound : (a : Step) (t : Tables) → is-crash (a .act) ≡ false → Unmet (lent-refusals N a t) → Sound t
   unfolding if
   lent-sound a t e u = sound t (subst (λ (b : Bool). Unmet (if b (record-refusals N t (a .who .0)) (tables-refusals N t))) e u)
@@ -98,17 +117,11 @@ module _ (N : Numbers) where
     record-there = let l = fine .long .words in omega arith
 
     pub own-unspoiled : spoiled N (record-at (t .words) c) ≡ false
-    unfolding any-spoiled
-    own-unspoiled = go (leb (record-end c) (length (t .words))) (le-leb _ _ record-there) (any-false n (spoiled-at N (t .words)) (fine .unspoiled) c there)
-      where
-        go : (b : Bool) → b ≡ true → (b && spoiled N (record-at (t .words) c)) ≡ false → spoiled N (record-at (t .words) c) ≡ false
-        go true q z = z
-        go false q z = absurd (false≢true q)
+    own-unspoiled = unspoiled-there (t .words) there record-there (fine .unspoiled)
 
     -- its round, slot and phase go together
     pub stands : let k = record-at (t .words) c in misplaced N (round-in (k .round)) (k .slot) (k .phase) ≡ false
-    unfolding spoiled
-    stands = or-false (ltb 4 (record-at (t .words) c .round)) _ own-unspoiled .1
+    stands = unspoiled-stands (t .words) there record-there (fine .unspoiled)
 
   -- a replica of the run is what the memories say of it
   pub own-view : (t : Tables) {c : ℕ} → c < n → view N t .at c ≡ replica-at N t c
