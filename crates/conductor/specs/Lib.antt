@@ -1,0 +1,9 @@
+pub mod Claims
+pub mod Counts
+pub mod Turns
+pub mod Rounds
+pub mod Level
+pub mod Steps
+pub mod Held
+pub mod Theorems
+pub mod OnTables
