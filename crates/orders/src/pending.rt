@@ -19,7 +19,7 @@ ghost use Rattle.known.specs.Room.{Acting, as-holder};
 ghost use Rattle.orders.specs.Waiting.{logged-from};
 
 // The order in which pending tags are proposed.
-fn is_ahead(x: u64, y: u64) -> bool
+pub fn is_ahead(x: u64, y: u64) -> bool
     ensures { λ r. ⌜ r ≡ ahead x y ⌝ }
 {
     x < y

@@ -1,0 +1,5 @@
+pub mod MarkLaws
+pub mod SeenLaws
+pub mod RunningLaws
+pub mod LevelLaws
+pub mod TagLaws
