@@ -5,7 +5,7 @@ use mathlib.Core.List.{List, [], _∷_}
 use mathlib.Core.Path.{_≡_, refl, sym, _∙_, ap}
 use lib.Dec.{leb, ltb, eqb}
 use lib.ListN.{length}
-use borrow.Author.Tests.{leb-false, ltb-false, eqb-true, not-false}
+use borrow.Author.Tests.{leb-false, lt-leb, ltb-false, eqb-true, eq-eqb, not-false}
 use Rattle.model.specs.declared.Numbers.{Numbers}
 use Rattle.model.specs.declared.ReplicaId.{ReplicaId}
 use Rattle.model.specs.declared.Refusal.{Refusal}
@@ -20,12 +20,12 @@ use Rattle.model.specs.Tests.{if}
 use Rattle.model.specs.Limits.{limited}
 use Rattle.model.specs.Rack.{Replica}
 use Rattle.model.specs.TurnedAway.{Ground, unless, settle}
-use Rattle.model.specs.Rules.{is-crash, own-rule}
-use Rattle.model.proofs.Cases.{clash, never, or-false, Unmet}
+use Rattle.model.specs.Rules.{is-crash, own-rule, strip-short}
+use Rattle.model.proofs.Cases.{clash, never, or-false, or-none, Unmet, unless-map, none-met}
 use Rattle.tables.specs.Layout.{Tables, known-in, record-at}
 use Rattle.tables.specs.View.{replica-at, view}
 use Rattle.tables.specs.Checks.{lengths, long, any-spoiled}
-use Rattle.tables.specs.Sound.{sound, own-view}
+use Rattle.tables.specs.Sound.{sound, sound-unmet, own-view}
 use Rattle.tables.specs.Calls.{judge}
 use Rattle.refusals.specs.declared.Vetted.{Vetted}
 use Rattle.refusals.specs.declared.Vetted.the-variants.{Refused, Passed}
@@ -38,18 +38,8 @@ abbrev behind : Effect → Vetted → Effect
 behind e (Refused why) = Refuse why
 behind e Passed = e
 
-behind-unless : (e : Effect) (gs : List Ground) → behind e (unless Refused gs Passed) ≡ unless Refuse gs e
-unfolding unless if
-behind-unless e [] = refl
-behind-unless e (g ∷ gs) = go (g .met) (behind-unless e gs)
-  where
-    go : (b : Bool) → behind e (unless Refused gs Passed) ≡ unless Refuse gs e
-        → behind e (if b (Refused (g .why)) (unless Refused gs Passed)) ≡ if b (Refuse (g .why)) (unless Refuse gs e)
-    go true below = refl
-    go false below = below
-
 -- where it passed, no refusal was met
-passed-unmet : (gs : List Ground) → unless Refused gs Passed ≡ Passed → Unmet gs
+pub passed-unmet : (gs : List Ground) → unless Refused gs Passed ≡ Passed → Unmet gs
 unfolding unless Unmet if
 passed-unmet [] e = tt
 passed-unmet (g ∷ gs) e = go (g .met) refl e (passed-unmet gs)
@@ -144,7 +134,7 @@ module _ (N : Numbers) (strip : List ℕ) (t : Tables) (c : ReplicaId) where
   module _ (a : Act) (alive : is-crash a ≡ false) {v : Vetted} (asked : v ≡ first-vetted N (c .0) (other (c .0) a) (length strip) t) where
     judged : behind (ruled a here) v ≡ judge N strip (record { who = c; act = a }) t
     unfolding first-vetted
-    judged = ap (behind (ruled a here)) asked ∙ behind-unless _ _ ∙ sym (judge-behind a alive)
+    judged = ap (behind (ruled a here)) asked ∙ unless-map (behind (ruled a here)) Refused Passed _ ∙ sym (judge-behind a alive)
 
     pub judge-stops : {why : Refusal} → v ≡ Refused why → Refuse why ≡ judge N strip (record { who = c; act = a }) t
     judge-stops e = ap (behind (ruled a here)) (sym e) ∙ judged
@@ -168,3 +158,19 @@ module _ (N : Numbers) (strip : List ℕ) (t : Tables) (c : ReplicaId) where
   pub admits-vetted : (d : ℕ) {b : Bool} {v : Vetted} {l : Lengths} → b ≡ run-spoiled N (t .words) → b ≡ false → l ≡ lengths t
       → v ≡ vetted N (c .0) d l (length strip) (t .words) → v ≡ Passed → Admitted N (c .0) d (length strip) t
   admits-vetted d is h measured q e = admitted d (vetted-next d is h measured q) e
+
+-- ---- a step where no first refusal is met
+
+module _ {N : Numbers} {c d st : ℕ} {t : Tables} (l : Admitted N c d st t) where
+  -- none is met with any strip that is long enough
+  pub asked-unmet : (strip : ℕ) → ltb strip (N .slots * N .phases) ≡ false → Unmet (first-asked N c d (lengths t) strip (t .words))
+  unfolding Unmet
+  asked-unmet strip long =
+      let (spoiled, (short, _)) = sound-unmet N (l .fine) in
+      (spoiled, (short, (long, (or-none _ _ (lt-leb _ _ (l .who)) (lt-leb _ _ (l .named)), (ap not (eq-eqb _ 0 (l .running)), tt)))))
+
+-- it comes to its rule
+pub admitted-rules : (N : Numbers) (strip : List ℕ) (t : Tables) (c : ReplicaId) (a : Act) → is-crash a ≡ false → {st : ℕ}
+    → Admitted N (c .0) (other (c .0) a) st t → strip-short N strip ≡ false
+    → judge N strip (record { who = c; act = a }) t ≡ settle (own-rule N strip a (view N t) (replica-at N t (c .0)))
+admitted-rules N strip t c a alive l long = judge-behind N strip t c a alive ∙ none-met Refuse _ _ (asked-unmet l (length strip) long)

@@ -15,25 +15,12 @@ use Rattle.model.specs.Scripts.{Played, play, accepted, answered, ended}
 use Rattle.model.proofs.Cases.{clash, unless-ind}
 use Rattle.tables.specs.Layout.{Tables}
 use Rattle.tables.specs.View.{view}
-use Rattle.tables.specs.Write.{write}
+use Rattle.tables.specs.Write.{write, unstored}
 use Rattle.tables.specs.Calls.{judge, performed, stepped}
 use Rattle.effects.specs.Doable.{Doable}
 use Rattle.acts.proofs.DoableLaws.{judged-doable}
 
--- a refused effect stores nothing
-unstored : (N : Numbers) (c : ℕ) (t : Tables) (e : Effect) → accepted e ≡ false → t ≡ write N c e t
-unfolding write
-unstored N c t = elim [
-  | Refuse why ↦ λ h. refl
-  | Hold x ↦ λ h. clash (sym h)
-  | Send so p w ↦ λ h. clash (sym h)
-  | Close x ↦ λ h. clash (sym h)
-  | Seek ↦ λ h. clash (sym h)
-  | Receive so s p d w ↦ λ h. clash (sym h)
-  | Halt ↦ λ h. clash (sym h)
-]
-
--- an accepted one answers that it is done
+-- an accepted effect answers that it is done
 all-done : (e : Effect) → accepted e ≡ true → Done ≡ answered Done e
 all-done = elim [
   | Refuse why ↦ λ h. clash h

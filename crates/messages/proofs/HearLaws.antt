@@ -44,7 +44,7 @@ by-mark true w e = e
 by-mark false w e = refl
 
 module _ (N : Numbers) (ws os bs : List ℕ) (c : ℕ) (m : Message) (so : Sort) where
-  abbrev Heard : Effect → Type 0
+  abbrev pub Heard : Effect → Type 0
   Heard r = r ≡ settle (hear-rule N (guarded N (sent-words N ws os bs)) (reading 0 0 (guarded N (inbox-in N ws os bs c))) m (some so))
 
   abbrev Out : Bool → Type 0

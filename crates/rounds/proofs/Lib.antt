@@ -1,0 +1,3 @@
+pub mod MadeLaws
+pub mod HearLaws
+pub mod FineLaws
