@@ -7,11 +7,11 @@ use Rattle.model.specs.declared.Plan.{Plan}
 use Rattle.model.specs.declared.ReplicaId.{ReplicaId}
 use Rattle.model.specs.declared.Step.{Step}
 use Rattle.model.specs.declared.Call.{Call}
-use Rattle.model.specs.declared.Call.the-variants.{Open, Single, RunOn}
+use Rattle.model.specs.declared.Call.the-variants.{Open, Single, RunOn, Conduct}
 use Rattle.model.specs.declared.Answer.{Answer}
 use Rattle.model.specs.Scripts.{ended, Played}
 use Rattle.tables.specs.Layout.{Tables}
-use Rattle.tables.specs.Calls.{OpenOutcome, open-outcome, stepped, ran-on, open-rack, called}
+use Rattle.tables.specs.Calls.{OpenOutcome, open-outcome, stepped, ran-on, conducted, open-rack, called}
 
 -- a step leaves the strip alone
 lent : (strip : List ℕ) {r : Answer} {t : Tables} {o : Played Tables} → ended r t ≡ o → open-outcome r t strip ≡ open-outcome (o .answer) (o .state) strip
@@ -35,3 +35,7 @@ module _ (N : Numbers) (t : Tables) (strip : List ℕ) {call : Call} where
       → open-outcome r t′ strip ≡ called N call t strip
   unfolding called
   runs-on c e h = named e (lent strip h)
+
+  pub conducts : {r : Answer} {t′ : Tables} → call ≡ Conduct → ended r t′ ≡ conducted N strip t → open-outcome r t′ strip ≡ called N call t strip
+  unfolding called
+  conducts e h = named e (lent strip h)

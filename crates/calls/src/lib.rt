@@ -1,4 +1,5 @@
 // Any call of a run. A crash is lent the record of the words. The call of the library is `perform`.
+use conduct::conduct;
 use model::Answer;
 use model::Call;
 use model::Numbers;
@@ -26,5 +27,6 @@ pub fn perform(
         Call::Open(plan) => open(plan, words, orders, ballots, strip),
         Call::Single(step) => take_step(step, numbers, words, orders, ballots, strip),
         Call::RunOn(who) => run_on(numbers, who, words, orders, ballots, strip),
+        Call::Conduct => conduct(numbers, words, orders, ballots, strip),
     }
 }

@@ -58,3 +58,7 @@ module _ (most : Numbers) (file : List ℕ) (p : Player) (t : Tables) (strip : L
   unfolding turned
   on-made {a} {answer} {next} {t′} {strip′} e q m =
       found e (ap (λ (k : Player). turn-of (Answered answer) k t′ strip′) m ∙ ap (answered p (r .next)) q)
+
+-- where the player stands behind the answer that the code has matched
+pub moved-told : (p : Player) (next : ℕ) {a : Answer} {q : Player} (b : Answer) → a ≡ b → q ≡ moved-on p next b → q ≡ moved-on p next a
+moved-told p next b e q = q ∙ ap (moved-on p next) (sym e)

@@ -6,9 +6,9 @@ use lib.Dec.{ltb}
 use Rattle.model.specs.declared.Numbers.{Numbers}
 use Rattle.model.specs.declared.Refusal.the-variants.{ShortTable, UnknownKind, CutRecord, OutOfPlace}
 use Rattle.model.specs.declared.Call.{Call}
-use Rattle.model.specs.declared.Call.the-variants.{Open, Single, RunOn}
+use Rattle.model.specs.declared.Call.the-variants.{Open, Single, RunOn, Conduct}
 use Rattle.model.specs.declared.Answer.{Answer}
-use Rattle.model.specs.declared.Answer.the-variants.{Refused, Done, Ran, Opened}
+use Rattle.model.specs.declared.Answer.the-variants.{Refused, Done, Ran, Opened, Conducted}
 use Rattle.model.specs.Answers.{refusal-number, answer-number, answer-values}
 use Rattle.model.specs.Tests.{if}
 use Rattle.model.specs.Limits.{planned, plan-limited}
@@ -50,6 +50,7 @@ abbrev pub out-of-place : Bool → Call → Bool
 out-of-place opened (Open q) = opened
 out-of-place opened (Single a) = not opened
 out-of-place opened (RunOn c) = not opened
+out-of-place opened Conduct = not opened
 
 -- an opening that is within the limits, but larger than the player's tables
 abbrev pub too-large : Numbers → Call → Bool
@@ -57,6 +58,7 @@ too-large most (Open q) = let N = planned q in
     plan-limited q && (ltb (most .n) (N .n) || (ltb (most .slots) (N .slots) || (ltb (most .phases) (N .phases) || ltb (most .room) (N .room))))
 too-large most (Single a) = false
 too-large most (RunOn c) = false
+too-large most Conduct = false
 
 -- the player behind a record: an accepted opening gives the run's numbers
 abbrev pub moved-on : Player → ℕ → Answer → Player
@@ -64,6 +66,7 @@ moved-on p next (Refused why) = record { at = next; opened = p .opened; numbers 
 moved-on p next Done = record { at = next; opened = p .opened; numbers = p .numbers }
 moved-on p next (Ran k) = record { at = next; opened = p .opened; numbers = p .numbers }
 moved-on p next (Opened N) = record { at = next; opened = true; numbers = N }
+moved-on p next (Conducted k m) = record { at = next; opened = p .opened; numbers = p .numbers }
 
 abbrev pub answered : Player → ℕ → OpenOutcome → Turn
 answered p next o = turn-of (Answered (o .answer)) (moved-on p next (o .answer)) (o .tables) (o .strip)

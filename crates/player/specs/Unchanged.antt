@@ -9,11 +9,11 @@ use Rattle.model.specs.declared.Numbers.{Numbers}
 use Rattle.model.specs.declared.Refusal.{Refusal}
 use Rattle.model.specs.declared.Call.{Call}
 use Rattle.model.specs.declared.Answer.{Answer}
-use Rattle.model.specs.declared.Answer.the-variants.{Refused, Done, Ran, Opened}
+use Rattle.model.specs.declared.Answer.the-variants.{Refused, Done, Ran, Opened, Conducted}
 use Rattle.model.specs.Answers.{answer-number}
 use Rattle.model.proofs.Cases.{unless-ind}
 use Rattle.tables.specs.Layout.{Tables}
-use Rattle.tables.specs.Calls.{OpenOutcome, called}
+use Rattle.tables.specs.Calls.{OpenOutcome}
 use Rattle.promises.specs.Kept.{refused-unchanged}
 use Rattle.reader.specs.declared.Found.{Found}
 use Rattle.reader.specs.declared.Found.the-variants.{End, Unknown, Cut, Made}
@@ -46,6 +46,7 @@ module _ (most : Numbers) (p : Player) (t : Tables) (strip : List ℕ) where
   by-answer next o leaves Done e h = absurd (omega arith)
   by-answer next o leaves (Ran k) e h = absurd (omega arith)
   by-answer next o leaves (Opened N) e h = absurd (omega arith)
+  by-answer next o leaves (Conducted k m) e h = absurd (omega arith)
 
   -- "A record of a step file first meets 19, 20": these are said as they are read
   by-found : (next : ℕ) (f : Found) → 0 < found-number f → turned most p t strip next f .number ≡ found-number f

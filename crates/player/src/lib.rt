@@ -42,6 +42,7 @@ fn is_out_of_place(opened: bool, call: Call) -> bool
         Call::Open(_) => opened,
         Call::Single(_) => !opened,
         Call::RunOn(_) => !opened,
+        Call::Conduct => !opened,
     }
 }
 
@@ -71,6 +72,7 @@ fn is_too_large(most: Numbers, call: Call) -> bool
         Call::Open(plan) => numbers_beyond(most, plan),
         Call::Single(_) => false,
         Call::RunOn(_) => false,
+        Call::Conduct => false,
     }
 }
 
@@ -98,6 +100,14 @@ fn move_on(player: Player, next: usize, answer: Answer) -> Player
             at: next,
             opened: true,
             numbers: opened,
+        },
+        Answer::Conducted {
+            steps: _,
+            relays: _,
+        } => Player {
+            at: next,
+            opened: player.opened,
+            numbers,
         },
     }
 }

@@ -8,7 +8,7 @@ use Rattle.model.specs.declared.Refusal.the-variants.{UnknownKind, CutRecord}
 use Rattle.model.specs.declared.Act.{Act}
 use Rattle.model.specs.declared.Act.the-variants.{Submit, Relay, Begin, Hear, Advance, Crash}
 use Rattle.model.specs.declared.Call.{Call}
-use Rattle.model.specs.declared.Call.the-variants.{Open, Single, RunOn}
+use Rattle.model.specs.declared.Call.the-variants.{Open, Single, RunOn, Conduct}
 use Rattle.model.specs.Answers.{refusal-number}
 use Rattle.model.specs.Tests.{if}
 use Rattle.model.specs.TurnedAway.{Ground, _when_, unless}
@@ -31,6 +31,8 @@ abbrev pub call-values : Call → List ℕ
 call-values (Open q) = let N = q .numbers in 0 ∷ N .n ∷ N .f ∷ N .slots ∷ N .phases ∷ N .room ∷ q .start ∷ []
 call-values (Single a) = act-values (a .who .0) (a .act)
 call-values (RunOn c) = 7 ∷ c .0 ∷ []
+-- of no record
+call-values Conduct = []
 
 -- 0: no refusal
 abbrev pub found-number : Found → ℕ

@@ -3,11 +3,11 @@ use Prim.Native.Nat.{ℕ, zero, suc, _+_, _-_, _*_, _≤_, _<_}
 use native.Mathlib.Omega.{arith}
 use native.Mathlib.Numerals.{add-one}
 use mathlib.Core.Bool.{Bool, true, false, not}
-use mathlib.Core.List.{List, [], _∷_}
+use mathlib.Core.List.{List}
 use mathlib.Core.Path.{_≡_, refl, sym, _∙_, ap, subst}
 use lib.Dec.{leb, eqb}
 use lib.ListN.{length}
-use borrow.Author.Tests.{leb-false, le-ltb}
+use borrow.Author.Tests.{leb-false}
 use mathlib.Core.Logic.{_≢_}
 use Rattle.model.specs.declared.Numbers.{Numbers}
 use Rattle.model.specs.declared.ReplicaId.{ReplicaId}
@@ -17,20 +17,16 @@ use Rattle.model.specs.declared.Effect.the-variants.{Refuse, Hold, Send, Close,
 use Rattle.model.specs.declared.Act.the-variants.{Advance}
 use Rattle.model.specs.declared.Answer.{Answer}
 use Rattle.model.specs.declared.Answer.the-variants.{Refused, Ran}
-use Rattle.tables.specs.declared.Lengths.{Lengths}
-use Rattle.model.specs.Limits.{limited, most-phases}
-use Rattle.model.specs.TurnedAway.{Ground, unless}
+use Rattle.model.specs.Limits.{most-phases}
 use Rattle.model.specs.Scripts.{Played, play, accepted, advance, goes-on, stopped, running, most-advances, ended}
-use Rattle.model.proofs.Branches.{if-false}
-use Rattle.model.proofs.Cases.{clash, and-true, or-false, or-none, Unmet, unless-ind, unmet-both}
+use Rattle.model.proofs.Cases.{clash, and-true, or-false, Unmet, unless-ind, unmet-both, none-met}
 use Rattle.model.proofs.Playing.{run-further, run-stops}
 use Rattle.safety.specs.Comes.{past}
 use Rattle.tables.specs.Layout.{mask-bits, Tables, record-end}
 use Rattle.tables.specs.View.{view}
-use Rattle.tables.specs.Sound.{lent-sound, record-there}
-use Rattle.tables.specs.Checks.{lengths, long}
-use Rattle.tables.specs.Calls.{lent-refusals, judge, performed, on-tables, stepped, ran-on}
-use Rattle.promises.specs.Kept.{step-lengths-kept}
+use Rattle.tables.specs.Sound.{sound-unmet, lent-sound, record-there}
+use Rattle.tables.specs.Checks.{lengths}
+use Rattle.tables.specs.Calls.{lent-refusals, judge, performed, on-tables, ran-on}
 use Rattle.promises.specs.RunOn.{run-on-further}
 use Rattle.promises.specs.Still.{still-fine}
 use Rattle.refusals.specs.declared.Vetted.the-variants.{Refused as Refused′, Passed}
@@ -72,12 +68,6 @@ run-out N strip c t count e = rw e
 
 -- ---- the first refusals, once passed, are passed again
 
--- it passes where no refusal is met
-unmet-passes : (gs : List Ground) → Unmet gs → unless Refused′ gs Passed ≡ Passed
-unfolding unless Unmet
-unmet-passes [] u = refl
-unmet-passes (g ∷ gs) u = if-false _ _ (u .0) ∙ unmet-passes gs (u .1)
-
 module _ (N : Numbers) (strip : List ℕ) (c : ReplicaId) (t : Tables) where
   -- an advance that is accepted has met none
   unmet : accepted (judge N strip (advance c) t) ≡ true → Unmet (first-asked N (c .0) (c .0) (lengths t) (length strip) (t .words))
@@ -88,20 +78,13 @@ module _ (N : Numbers) (strip : List ℕ) (c : ReplicaId) (t : Tables) where
 
   -- nor does the next
   pub passing-on : accepted (judge N strip (advance c) t) ≡ true → Passing N (c .0) (length strip) (performed N strip (advance c) t)
-  unfolding first-vetted Unmet stepped play
+  unfolding first-vetted Unmet
   passing-on g =
-      let (spoiled, (short, (few, (nobody, (dark, _))))) = unmet g in
+      let (_, (_, (few, (nobody, (dark, _))))) = unmet g in
       let still = still-fine N strip (advance c) t refl g in
-      let fine = still .fine in
-      let limits = or-false (not (limited N)) _ spoiled .0 in
+      let (spoiled, (short, _)) = sound-unmet N (still .fine) in
       let here = leb-false _ _ (or-false (leb (N .n) (c .0)) _ nobody .0) in
-      unmet-passes _ (
-        or-none _ _ limits (or-none _ _ (le-ltb _ _ (fine .known)) (fine .unspoiled)),
-        (
-          ap (λ (l : Lengths). not (long N l)) (step-lengths-kept N strip (advance c) t) ∙ short,
-          (few, (nobody, (ap (λ (k : ℕ). not (eqb k 0)) (still .alike (c .0) here) ∙ dark, tt))),
-        ),
-      )
+      none-met Refused′ Passed _ (spoiled, (short, (few, (nobody, (ap (λ (k : ℕ). not (eqb k 0)) (still .alike (c .0) here) ∙ dark, tt)))))
 
 -- ---- by one advance
 

@@ -5,7 +5,7 @@ use mathlib.Core.Logic.{_≢_}
 use mathlib.Core.Path.{_≡_, refl, sym, _∙_, ap}
 use Rattle.model.specs.declared.Numbers.{Numbers}
 use Rattle.model.specs.declared.Answer.{Answer}
-use Rattle.model.specs.declared.Answer.the-variants.{Ran, Opened}
+use Rattle.model.specs.declared.Answer.the-variants.{Ran, Opened, Conducted}
 use Rattle.model.specs.Answers.{answer-number, answer-values}
 use Rattle.model.specs.Tests.{bit}
 use Rattle.model.specs.Scripts.{ended, Played}
@@ -30,6 +30,11 @@ pub count-past : (k i : ℕ) → i ≢ 0 → 0 ≡ value-of i (Ran k)
 count-past k zero ne = absurd (ne refl)
 count-past k (suc i) ne = refl
 
+pub both-past : (k m i : ℕ) → i ≢ 0 → i ≢ 1 → 0 ≡ value-of i (Conducted k m)
+both-past k m zero a b = absurd (a refl)
+both-past k m (suc zero) a b = absurd (b refl)
+both-past k m (suc (suc i)) a b = refl
+
 pub number-past : (N : Numbers) (i : ℕ) → i ≢ 0 → i ≢ 1 → i ≢ 2 → i ≢ 3 → i ≢ 4 → 0 ≡ value-of i (Opened N)
 number-past N zero a b c d e = absurd (a refl)
 number-past N (suc zero) a b c d e = absurd (b refl)
@@ -51,6 +56,10 @@ module _ {a : Answer} {r : ℕ} (number : r ≡ answer-number a) where
   pub counted : {k : ℕ} {t : Tables} {o : Played Tables} → k ≡ value 0 (answer-values a) → ended a t ≡ o
       → (r ≡ o .number) × (k ≡ value 0 (o .values)) × (t ≡ o .state)
   counted h e = (numbered e .0, h ∙ ap (λ (o : Played Tables). value 0 (o .values)) e, numbered e .1)
+
+  pub both-counted : {k m : ℕ} {t : Tables} {o : Played Tables} → k ≡ value 0 (answer-values a) → m ≡ value 1 (answer-values a) → ended a t ≡ o
+      → (r ≡ o .number) × (k ≡ value 0 (o .values)) × (m ≡ value 1 (o .values)) × (t ≡ o .state)
+  both-counted h g e = (numbered e .0, counted h e .1, g ∙ ap (λ (o : Played Tables). value 1 (o .values)) e, numbered e .1)
 
   pub opened : {N : Numbers} {t : Tables} {strip : List ℕ} {o : OpenOutcome} → N ≡ numbers-in (answer-values a) → open-outcome a t strip ≡ o
       → (r ≡ o .number) × (N ≡ numbers-in (o .values)) × (t ≡ o .tables) × (strip ≡ o .strip)

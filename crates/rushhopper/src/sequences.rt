@@ -1,5 +1,6 @@
-// Strips, openings, run on and whole step files for callers in C, as the calls of the same names.
+// Strips, openings, run on, the conductor and whole step files for callers in C, as the calls of the same names.
 use coin::fill_strip;
+use conduct::conduct;
 use model::Answer;
 use model::Numbers;
 use model::Plan;
@@ -11,9 +12,9 @@ use values::answers::number_of;
 use values::one_if;
 ghost use mathlib.Core.Path.{_≡_};
 ghost use Rattle.model.specs.Tests.{bit};
-ghost use Rattle.model.specs.declared.Answer.the-variants.{Ran as RanSo, Opened as OpenedSo};
+ghost use Rattle.model.specs.declared.Answer.the-variants.{Ran as RanSo, Opened as OpenedSo, Conducted as ConductedSo};
 ghost use Rattle.model.specs.Answers.{answer-values};
-ghost use Rattle.tables.specs.Calls.{ran-on, open-rack};
+ghost use Rattle.tables.specs.Calls.{ran-on, conducted, open-rack};
 ghost use Rattle.tables.specs.Lent.{moments};
 ghost use Rattle.coin.specs.Strip.{strip-filled};
 ghost use Rattle.report.specs.Page.{page, print};
@@ -32,6 +33,14 @@ pub struct Opened {
 pub struct Ran {
     pub refusal: usize,
     pub advances: usize,
+}
+
+// How many steps were accepted besides relays, and how many relays; both 0 after a refusal.
+#[repr(C)]
+pub struct Conducted {
+    pub refusal: usize,
+    pub steps: usize,
+    pub relays: usize,
 }
 
 // How many bytes of the report are written, and whether (1) a run was opened, with its numbers, else all 0.
@@ -72,6 +81,18 @@ fn number_at(numbers: Numbers, i: usize) -> usize
     0
 }
 
+fn both_at(steps: usize, relays: usize, i: usize) -> usize
+    ensures { λ r. ⌜ r ≡ value i (answer-values (ConductedSo steps relays)) ⌝ }
+{
+    if i == 0 {
+        return steps;
+    }
+    if i == 1 {
+        return relays;
+    }
+    0
+}
+
 // An answer's value at a place, 0 where it has none.
 fn value_at(answer: Answer, i: usize) -> usize
     ensures { λ r. ⌜ r ≡ value i (answer-values answer) ⌝ }
@@ -81,6 +102,7 @@ fn value_at(answer: Answer, i: usize) -> usize
         Answer::Done => 0,
         Answer::Ran(count) => count_at(count, i),
         Answer::Opened(numbers) => number_at(numbers, i),
+        Answer::Conducted { steps, relays } => both_at(steps, relays, i),
     }
 }
 
@@ -150,6 +172,27 @@ pub extern "C" fn rushhopper_run_on(
     Ran {
         refusal: number_of(answer),
         advances: value_at(answer, 0),
+    }
+}
+
+#[no_mangle]
+pub extern "C" fn rushhopper_conduct(
+    numbers: Numbers,
+    words: &mut [u16],
+    orders: &mut [u64],
+    ballots: &mut [u8],
+    strip: &[u8],
+) -> Conducted
+    ensures { λ r.
+        let t = moments words orders ballots in
+        let o = conducted numbers (now (strip .entry)) (t .entry) in
+        ⌜ (r .refusal ≡ o .number) × (r .steps ≡ value 0 (o .values)) × (r .relays ≡ value 1 (o .values)) × (t .exit ≡ o .state) ⌝ }
+{
+    let answer = conduct(numbers, words, orders, ballots, strip);
+    Conducted {
+        refusal: number_of(answer),
+        steps: value_at(answer, 0),
+        relays: value_at(answer, 1),
     }
 }
 

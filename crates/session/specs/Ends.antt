@@ -10,7 +10,7 @@ use lib.ListN.{length}
 use borrow.Author.Tests.{ltb-false, leb-false}
 use Rattle.model.specs.declared.Numbers.{Numbers}
 use Rattle.model.specs.declared.Answer.{Answer}
-use Rattle.model.specs.declared.Answer.the-variants.{Refused, Done, Ran, Opened}
+use Rattle.model.specs.declared.Answer.the-variants.{Refused, Done, Ran, Opened, Conducted}
 use Rattle.model.proofs.Cases.{if-ind, clash}
 use Rattle.tables.specs.Layout.{Tables}
 use Rattle.reader.specs.declared.Read.{Read}
@@ -25,6 +25,7 @@ moved-to p next (Refused why) = refl
 moved-to p next Done = refl
 moved-to p next (Ran k) = refl
 moved-to p next (Opened N) = refl
+moved-to p next (Conducted k m) = refl
 
 module _ (most : Numbers) (file : List ℕ) where
   -- where reading goes on, so many bytes are read, and no more than there are

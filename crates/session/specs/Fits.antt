@@ -12,6 +12,7 @@ use borrow.Author.Tests.{ltb-true, not-false}
 use Rattle.tables.specs.Types.{Numbers, Plan, Refusal, BadPlan, ShortTable, SpoiledRecord, NoSuchReplica, Crashed, BlankTag, AlreadyHeld}
 use Rattle.tables.specs.Types.{TagRoomFull, UnknownTag, Busy, LogFull, NothingPending, NotBegun, TooFewHeard, PhasesUsedUp, NoSuchMessage}
 use Rattle.tables.specs.Types.{NotSent, AlreadyHeard, UnknownKind, CutRecord, OutOfPlace, Call, Open, Single, RunOn, Answer}
+use Rattle.tables.specs.Types.{NotLevel, TooFewRunning, Conduct}
 use Rattle.model.specs.Answers.{refusal-number}
 use Rattle.model.specs.Limits.{most-replicas, most-slots, limited, planned, plan-limited}
 use Rattle.model.specs.Rack.{round-in, Replica}
@@ -32,7 +33,7 @@ use Rattle.player.specs.declared.Said.the-variants.{Answered}
 use Rattle.player.specs.Play.{Turn, place-refusals, called-in-place, turned, turn, goes-on, play, begun}
 use Rattle.session.specs.Reported.{said-line, line-on, lines, ending, fresh, whole, report}
 use Rattle.session.specs.Played.{opened-sound}
-use Rattle.session.specs.Unopened.{step-answer, run-answer}
+use Rattle.session.specs.Unopened.{step-answer, run-answer, conduct-answer}
 
 -- ---- the line of a record
 
@@ -58,6 +59,8 @@ refusal-few AlreadyHeard = omega arith
 refusal-few UnknownKind = omega arith
 refusal-few CutRecord = omega arith
 refusal-few OutOfPlace = omega arith
+refusal-few NotLevel = omega arith
+refusal-few TooFewRunning = omega arith
 
 opened-short : (N : Numbers) → Bounds N → length (opened-line N) ≤ 24
 opened-short N b =
@@ -86,8 +89,9 @@ module _ (k : ℕ) (h : k < 100000) where
   called-short : (N : Numbers) (a : Call) (t : Tables) (strip : List ℕ) → Short (called N a t strip .answer)
   unfolding called said-line
   called-short N (Open q) t strip = opening-short q t strip
-  called-short N (Single a) t strip = step-answer Short refused-short zero-le (λ _. zero-le) N strip t a
-  called-short N (RunOn c) t strip = run-answer Short refused-short zero-le (λ _. zero-le) N strip t c
+  called-short N (Single a) t strip = step-answer Short refused-short zero-le (λ _. zero-le) (λ _ _. zero-le) N strip t a
+  called-short N (RunOn c) t strip = run-answer Short refused-short zero-le (λ _. zero-le) (λ _ _. zero-le) N strip t c
+  called-short N Conduct t strip = conduct-answer Short refused-short zero-le (λ _. zero-le) (λ _ _. zero-le) N strip t
 
   turn-short : (most : Numbers) (p : Player) (t : Tables) (strip : List ℕ) (next : ℕ) (f : Found)
       → length (said-line k (turned most p t strip next f .said)) ≤ 24

@@ -6,8 +6,8 @@ use mathlib.Core.Bool.{Bool, true, false, not}
 use mathlib.Core.List.{List, [], _∷_, _++_, map}
 use mathlib.Core.Logic.{_⊎_, inl, inr}
 use mathlib.Core.Path.{_≡_, refl, sym, _∙_, ap, subst, subst₂}
-use Rattle.tables.specs.Types.{Numbers, Plan, ReplicaId, UnknownKind, CutRecord, OutOfPlace, Step, Call, Open, Single, RunOn}
-use Rattle.tables.specs.Types.{Answer, Refused, Done, Ran, Opened}
+use Rattle.tables.specs.Types.{Numbers, Plan, UnknownKind, CutRecord, OutOfPlace, Call, Open, Single, RunOn, Conduct}
+use Rattle.tables.specs.Types.{Answer, Refused, Done, Ran, Opened, Conducted}
 use Rattle.model.specs.Tests.{if}
 use Rattle.model.specs.Limits.{planned}
 use Rattle.model.specs.History.{History, follow, after}
@@ -16,7 +16,7 @@ use Rattle.model.proofs.Cases.{clash, Unmet, unless-ind}
 use Rattle.tables.specs.Bounds.{bounds, is-long}
 use Rattle.tables.specs.Sound.{Sound}
 use Rattle.tables.specs.Layout.{Tables}
-use Rattle.tables.specs.Calls.{OpenOutcome, stepped, ran-on, opening-refusals, open-rack, called}
+use Rattle.tables.specs.Calls.{OpenOutcome, opening-refusals, open-rack, called}
 use Rattle.demand.specs.Lists.{Item, lent, as-lent, played, tables-after, Fair, OneRun}
 use Rattle.demand.specs.Openings.{accepted-opening}
 use Rattle.demand.specs.Statement.{Demand3}
@@ -31,7 +31,7 @@ use Rattle.player.specs.declared.Said.the-variants.{Nothing, Stopped, Answered}
 use Rattle.player.specs.Play.{Turn, out-of-place, too-large, moved-on, place-refusals, called-in-place, answered, turned, turn, goes-on, play, begun}
 use Rattle.player.proofs.PlayLaws.{on-misplaced, on-call}
 use Rattle.session.specs.Reported.{said-line, line-on, fresh}
-use Rattle.session.specs.Unopened.{step-answer, run-answer}
+use Rattle.session.specs.Unopened.{step-answer, run-answer, conduct-answer}
 
 -- the calls with the one that a record makes of an opened run: an opening is out of place and makes none
 abbrev pub with-made : List ℕ → List Item → Found → List Item
@@ -41,6 +41,7 @@ with-made strip items Cut = items
 with-made strip items (Made (Open q)) = items
 with-made strip items (Made (Single a)) = items ++ (lent strip (Single a) ∷ [])
 with-made strip items (Made (RunOn c)) = items ++ (lent strip (RunOn c) ∷ [])
+with-made strip items (Made Conduct) = items ++ (lent strip Conduct ∷ [])
 
 -- the calls that a player has made since the accepted opening, after so many records
 unfoldable pub calls-made : ℕ → Numbers → List ℕ → Turn → List Item
@@ -58,6 +59,7 @@ history-says N h strip Cut = Stopped CutRecord
 history-says N h strip (Made (Open q)) = Answered (Refused OutOfPlace)
 history-says N h strip (Made (Single a)) = Answered (follow N (record { strip = strip; call = Single a }) h .answer)
 history-says N h strip (Made (RunOn c)) = Answered (follow N (record { strip = strip; call = RunOn c }) h .answer)
+history-says N h strip (Made Conduct) = Answered (follow N (record { strip = strip; call = Conduct }) h .answer)
 
 -- an opened run, and what is lent to it now
 pub record Running (N : Numbers) (t : Tables) (strip : List ℕ) (x : Turn) (items : List Item) : Type 0 where
@@ -87,6 +89,7 @@ still-open p next (Refused why) h = h
 still-open p next Done h = h
 still-open p next (Ran k) h = h
 still-open p next (Opened N) h = refl
+still-open p next (Conducted k m) h = h
 
 module _ (most : Numbers) (file : List ℕ) (N : Numbers) (t : Tables) (strip : List ℕ) where
   -- the outcome of a call that is in place
@@ -105,28 +108,19 @@ module _ (most : Numbers) (file : List ℕ) (N : Numbers) (t : Tables) (strip : 
     closed-door : not (x .player .opened) ≡ false
     closed-door = ap not (r .opened)
 
-    makes-step : (a : Step) → After (Made (Single a))
-    unfolding turned called played
-    makes-step a =
-        let o = in-place (x .player) (Single a) (x .tables) (x .strip) closed-door refl (r .numbers) in
-        rw o (record {
-          opened = still-open (x .player) next (stepped N (x .strip) a (x .tables) .answer) (r .opened);
-          numbers = step-answer Same-numbers (λ why. refl) refl (λ k. refl) N (x .strip) (x .tables) a ∙ r .numbers;
-          tables = ap (λ (u : Tables). stepped N (x .strip) a u .state) (r .tables) ∙ sym (after-more N items (lent (x .strip) (Single a)) t);
-          strip-kept = r .strip-kept;
-          one-run = run-more N items _ t (r .one-run) tt;
-        })
-
-    makes-run : (c : ReplicaId) → After (Made (RunOn c))
-    unfolding turned called played
-    makes-run c =
-        let o = in-place (x .player) (RunOn c) (x .tables) (x .strip) closed-door refl (r .numbers) in
-        rw o (record {
-          opened = still-open (x .player) next (ran-on N (x .strip) c (x .tables) .answer) (r .opened);
-          numbers = run-answer Same-numbers (λ why. refl) refl (λ k. refl) N (x .strip) (x .tables) c ∙ r .numbers;
-          tables = ap (λ (u : Tables). ran-on N (x .strip) c u .state) (r .tables) ∙ sym (after-more N items (lent (x .strip) (RunOn c)) t);
-          strip-kept = r .strip-kept;
-          one-run = run-more N items _ t (r .one-run) tt;
+    -- a call of the run
+    makes-call : (a : Call) → out-of-place true a ≡ false → too-large most a ≡ false → Fair N (lent (x .strip) a) (tables-after N items t)
+        → called N a (x .tables) (x .strip) .strip ≡ x .strip → Same-numbers (called N a (x .tables) (x .strip) .answer)
+        → Running N t strip (turned most (x .player) (x .tables) (x .strip) next (Made a)) (items ++ (lent (x .strip) a ∷ []))
+    unfolding turned played
+    makes-call a in-time small fair kept same =
+        let placed = ap (λ (b : Bool). out-of-place b a) (r .opened) ∙ in-time in
+        rw (in-place (x .player) a (x .tables) (x .strip) placed small (r .numbers)) (record {
+          opened = still-open (x .player) next (called N a (x .tables) (x .strip) .answer) (r .opened);
+          numbers = same ∙ r .numbers;
+          tables = ap (λ (u : Tables). called N a u (x .strip) .tables) (r .tables) ∙ sym (after-more N items (lent (x .strip) a) t);
+          strip-kept = kept ∙ r .strip-kept;
+          one-run = run-more N items _ t (r .one-run) fair;
         })
 
     -- an opening is out of place there
@@ -137,13 +131,17 @@ module _ (most : Numbers) (file : List ℕ) (N : Numbers) (t : Tables) (strip : 
         (λ u. clash (sym (u .0) ∙ r .opened))
 
     makes : (f : Found) → After f
-    unfolding turned
+    unfolding turned called
     makes End = record { opened = r .opened; numbers = r .numbers; tables = r .tables; strip-kept = r .strip-kept; one-run = r .one-run }
     makes Unknown = record { opened = r .opened; numbers = r .numbers; tables = r .tables; strip-kept = r .strip-kept; one-run = r .one-run }
     makes Cut = record { opened = r .opened; numbers = r .numbers; tables = r .tables; strip-kept = r .strip-kept; one-run = r .one-run }
     makes (Made (Open q)) = makes-none q
-    makes (Made (Single a)) = makes-step a
-    makes (Made (RunOn c)) = makes-run c
+    makes (Made (Single a)) =
+        makes-call (Single a) refl refl tt refl (step-answer Same-numbers (λ why. refl) refl (λ k. refl) (λ k m. refl) N (x .strip) (x .tables) a)
+    makes (Made (RunOn c)) =
+        makes-call (RunOn c) refl refl tt refl (run-answer Same-numbers (λ why. refl) refl (λ k. refl) (λ k m. refl) N (x .strip) (x .tables) c)
+    makes (Made Conduct) =
+        makes-call Conduct refl refl tt refl (conduct-answer Same-numbers (λ why. refl) refl (λ k. refl) (λ k m. refl) N (x .strip) (x .tables))
 
 -- ---- what is said of it
 
@@ -170,6 +168,7 @@ module _ (most : Numbers) (t : Tables) (strip : List ℕ) (q : Plan) (ok : open-
   says (Made (Open p)) = sym (ap (λ (o : OpenOutcome). Answered (o .answer)) (on-misplaced most (x .player) (Open p) (x .tables) (x .strip) (r .opened)))
   says (Made (Single a)) = ap Answered (says-call (Single a) refl refl tt)
   says (Made (RunOn c)) = ap Answered (says-call (RunOn c) refl refl tt)
+  says (Made Conduct) = ap Answered (says-call Conduct refl refl tt)
 
 -- ---- from the first record on
 
@@ -228,6 +227,7 @@ module _ (most : Numbers) (file : List ℕ) (t : Tables) (strip : List ℕ) wher
     starts (Made (Open q)) by-record = tries q by-record
     starts (Made (Single a)) by-record = too-early (Single a) (ap not shut) by-record
     starts (Made (RunOn c)) by-record = too-early (RunOn c) (ap not shut) by-record
+    starts (Made Conduct) by-record = too-early Conduct (ap not shut) by-record
 
   one-turn : (y : Turn) (items : List Item) (next : ℕ) (f : Found) → Stage y items
       → (y .player .opened ≡ false → ByRecord f (turned most (y .player) (y .tables) (y .strip) next f))

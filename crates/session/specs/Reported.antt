@@ -4,7 +4,7 @@ use mathlib.Core.Bool.{false}
 use mathlib.Core.List.{List, [], _++_}
 use lib.ListN.{length}
 use Rattle.model.specs.declared.Numbers.{Numbers}
-use Rattle.model.specs.declared.Answer.the-variants.{Refused, Done, Ran, Opened}
+use Rattle.model.specs.declared.Answer.the-variants.{Refused, Done, Ran, Opened, Conducted}
 use Rattle.model.specs.Tests.{if}
 use Rattle.tables.specs.Layout.{Tables}
 use Rattle.tables.specs.View.{view}
@@ -22,6 +22,7 @@ said-line k (Answered (Refused why)) = refused-line k why
 said-line k (Answered Done) = []
 said-line k (Answered (Ran count)) = []
 said-line k (Answered (Opened N)) = opened-line N
+said-line k (Answered (Conducted steps relays)) = []
 
 -- what the next record adds, as number k
 unfoldable pub line-on : ℕ → Numbers → List ℕ → Turn → List ℕ

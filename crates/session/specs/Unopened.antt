@@ -1,14 +1,20 @@
--- A step and a run on answer a refusal, that they are done, or a count of advances: they open nothing. What holds of these
--- answers holds of theirs.
+-- A step, a run on and the conductor answer a refusal, that they are done, or their counts: they open nothing. What holds of
+-- these answers holds of theirs.
 use Prim.Native.Nat.{ℕ, zero, suc}
-use mathlib.Core.List.{List}
+use mathlib.Core.List.{List, _++_}
+use mathlib.Core.Path.{sym, subst}
 use Rattle.tables.specs.Types.{Numbers, ReplicaId, Refusal, Effect, Refuse, Hold, Send, Close, Seek, Receive, Halt, Step, Answer, Refused, Done, Ran}
-use Rattle.model.specs.Scripts.{Script, Stage, play, answered, advance, goes-on, stopped, running, most-advances}
-use Rattle.model.proofs.Cases.{if-ind}
+use Rattle.tables.specs.Types.{Conducted}
+use Rattle.model.specs.Conductor.{conduct-refusals, relay-steps, conduct-steps}
+use Rattle.model.specs.Scripts.{Script, Stage, Played, play, answered, advance, goes-on, stopped, running, most-advances}
+use Rattle.model.proofs.Cases.{if-ind, unless-ind}
+use Rattle.model.proofs.Sequences.{conducts-by, conducted-by}
 use Rattle.tables.specs.Layout.{Tables}
-use Rattle.tables.specs.Calls.{on-tables, stepped, ran-on}
+use Rattle.tables.specs.View.{view}
+use Rattle.tables.specs.Calls.{tables-barred, on-tables, stepped, ran-on, conducted}
 
-module _ (P : Answer → Type 0) (refused : (why : Refusal) → P (Refused why)) (done : P Done) (ran : (k : ℕ) → P (Ran k)) where
+module _ (P : Answer → Type 0) (refused : (why : Refusal) → P (Refused why)) (done : P Done) (ran : (k : ℕ) → P (Ran k))
+    (both : (k m : ℕ) → P (Conducted k m)) where
   told-ind : (good : Answer) → P good → (e : Effect) → P (answered good e)
   told-ind good h (Refuse why) = refused why
   told-ind good h (Hold x) = h
@@ -37,3 +43,12 @@ module _ (P : Answer → Type 0) (refused : (why : Refusal) → P (Refused why))
     pub run-answer : (c : ReplicaId) → P (ran-on N strip c t .answer)
     unfolding ran-on
     run-answer c = running-ind (on-tables N strip) c (most-advances N) 0 t
+
+    pub conduct-answer : P (conducted N strip t .answer)
+    unfolding conducted
+    conduct-answer = let r = view N t in let w = on-tables N strip in
+        subst Told (sym (conducts-by w N t)) (unless-ind Told (tables-barred N strip t ++ conduct-refusals N r) refused
+        (λ _. subst Told (sym (conducted-by w (relay-steps N r) (conduct-steps N r) t)) (both _ _)))
+      where
+        Told : Played Tables → Type 0
+        Told o = P (o .answer)

@@ -42,6 +42,10 @@ fn put_answer(k: usize, answer: Answer, report: &mut [u8], at: usize) -> usize
         Answer::Done => at,
         Answer::Ran(_) => at,
         Answer::Opened(numbers) => put_opened(numbers, report, at),
+        Answer::Conducted {
+            steps: _,
+            relays: _,
+        } => at,
     }
 }
 

@@ -1,18 +1,17 @@
 -- A crash on the words, by whether its record is there.
-use Prim.Native.Nat.{ℕ, _+_, _*_, _≤_, _<_}
+use Prim.Native.Nat.{ℕ, _≤_, _<_}
 use native.Mathlib.Omega.{arith}
-use mathlib.Core.Bool.{Bool, true, false, _&&_, _||_, and-false as and-no}
+use mathlib.Core.Bool.{Bool, true, false, _&&_, and-false as and-no}
 use mathlib.Core.List.{List, [], _∷_}
 use mathlib.Core.Path.{_≡_, refl, sym, _∙_, ap}
 use lib.Dec.{leb, ltb}
 use lib.ListN.{length}
 use borrow.Author.Tests.{leb-true, leb-false, ltb-true, ltb-false, le-leb, le-ltb, lt-ltb}
 use Rattle.model.specs.declared.Numbers.{Numbers}
-use Rattle.model.specs.declared.Refusal.{Refusal}
 use Rattle.model.specs.declared.Effect.{Effect}
 use Rattle.model.specs.declared.Effect.the-variants.{Refuse, Halt}
 use Rattle.model.specs.declared.Answer.{Answer}
-use Rattle.model.specs.declared.Answer.the-variants.{Refused, Done, Ran, Opened}
+use Rattle.model.specs.declared.Answer.the-variants.{Refused, Done, Ran, Opened, Conducted}
 use Rattle.tables.specs.declared.Record.{Record}
 use Rattle.model.specs.Tests.{if}
 use Rattle.model.specs.Limits.{limited}
@@ -26,7 +25,7 @@ use Rattle.steps.specs.Crashing.{crash-judged, crash-missing}
 
 -- what the answer of a crash comes to
 abbrev effect-of : Answer → Effect
-effect-of = elim [ Refused why ↦ Refuse why | Done ↦ Halt | Ran k ↦ Halt | Opened N ↦ Halt ]
+effect-of = elim [ Refused why ↦ Refuse why | Done ↦ Halt | Ran k ↦ Halt | Opened N ↦ Halt | Conducted k m ↦ Halt ]
 
 -- one list of refusals, read as an answer and as an effect
 effect-unless : (k h : Record) (gs : List Ground)
@@ -80,14 +79,6 @@ module _ (N : Numbers) (c : ℕ) (ws : List ℕ) where
           ap (λ (o : CrashOutcome). effect-of (o .answer)) (made ∙ ap (crashed N c) loaded)
           ∙ effect-unless (record-at ws c) (halted (record-at ws c)) (crash-refusals N c (record-at ws c)) ∙ judged-there
 
-      pub crash-refused : {why : Refusal} → a ≡ Refused why → Refuse why ≡ crash-judged N c ws
-      crash-refused e = ap effect-of (sym e) ∙ made-there
-
-      pub crash-done : a ≡ Done → Halt ≡ crash-judged N c ws
-      crash-done e = ap effect-of (sym e) ∙ made-there
-
-      pub crash-ran : {m : ℕ} → a ≡ Ran m → Halt ≡ crash-judged N c ws
-      crash-ran e = ap effect-of (sym e) ∙ made-there
-
-      pub crash-opened : {M : Numbers} → a ≡ Opened M → Halt ≡ crash-judged N c ws
-      crash-opened e = ap effect-of (sym e) ∙ made-there
+      -- the effect of the answer that the code has matched
+      pub crash-told : {e : Effect} (x : Answer) → a ≡ x → e ≡ effect-of x → e ≡ crash-judged N c ws
+      crash-told x told is = is ∙ ap effect-of (sym told) ∙ made-there

@@ -62,6 +62,10 @@ fn judge_crash(numbers: Numbers, who: usize, words: &[u16]) -> Effect
         Answer::Done => Effect::Halt,
         Answer::Ran(_) => Effect::Halt,
         Answer::Opened(_) => Effect::Halt,
+        Answer::Conducted {
+            steps: _,
+            relays: _,
+        } => Effect::Halt,
     }
 }
 

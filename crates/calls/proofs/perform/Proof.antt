@@ -1,4 +1,4 @@
-use Rattle.calls.proofs.CallLaws.{opens, steps, runs-on}
+use Rattle.calls.proofs.CallLaws.{opens, steps, runs-on, conducts}
 use borrow.Author.Needs.{needs}
 use Rattle.calls.proofs.perform.Statement.{statement}
 use Rattle.calls.proofs.perform.Tie as tie
@@ -7,6 +7,8 @@ pub perform-spec : {M : Type 1} → statement M
 perform-spec =
     tie.close
     (tie.spec
+    (λ c. search needs)
+    (λ c κs. search needs)
     (λ c. search needs)
     (λ c κs. search needs)
     (λ c. search needs)
@@ -27,4 +29,9 @@ perform-spec =
     (λ c. search needs)
     (λ c. search needs)
     (λ c. search needs)
-    (λ c. search runs-on))
+    (λ c. search runs-on)
+    (λ c. search needs)
+    (λ c. search needs)
+    (λ c. search needs)
+    (λ c. search needs)
+    (λ c. search conducts))

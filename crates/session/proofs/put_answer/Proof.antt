@@ -1,6 +1,6 @@
 use mathlib.Core.Path.{ap}
 use Rattle.player.specs.declared.Said.the-variants.{Answered}
-use Rattle.model.specs.declared.Answer.the-variants.{Refused, Done, Ran, Opened}
+use Rattle.model.specs.declared.Answer.the-variants.{Refused, Done, Ran, Opened, Conducted}
 use Rattle.report.proofs.PageLaws.{nothing}
 use Rattle.session.specs.Reported.{said-line}
 use Rattle.session.proofs.ReportLaws.{says}
@@ -30,6 +30,10 @@ returns-4 c =
     let after-put-opened : tie.After-put-opened = search in
     says _ _ _ (Answered (Opened _)) (ap Answered (after-answer2 .answer2 .given .1)) (after-put-opened .put-opened .ensures)
 
+returns-5 : tie.Need-returns-5
+unfolding said-line
+returns-5 c = says _ _ _ (Answered (Conducted _ _)) (ap Answered (c .enum-told3 .given .1)) (nothing _)
+
 pub put-answer-spec : {M : Type 1} → statement M
 put-answer-spec =
     tie.close
@@ -41,8 +45,10 @@ put-answer-spec =
     (λ c. search needs)
     (λ c κs. search needs)
     (λ c. search needs)
+    (λ c. search needs)
     returns
     returns-2
     returns-3
     (λ c. search needs)
-    returns-4)
+    returns-4
+    returns-5)

@@ -1,6 +1,6 @@
 use borrow.Author.Tests.{not-true, not-false}
 use mathlib.Core.Path.{_∙_}
-use Rattle.steps.proofs.CrashLaws.{missing-is, placed, crash-refused, crash-done, crash-ran, crash-opened}
+use Rattle.steps.proofs.CrashLaws.{missing-is, placed, crash-told}
 use borrow.Author.Needs.{needs}
 use Rattle.steps.proofs.crashes.judge_crash.Statement.{statement}
 use Rattle.steps.proofs.crashes.judge_crash.Tie as tie
@@ -28,7 +28,9 @@ judge-crash-spec =
     (λ c. search needs)
     (λ c. search needs)
     (λ c. search needs)
-    (λ c. search (crash-refused, not-false))
-    (λ c. search (crash-done, not-false))
-    (λ c. search (crash-ran, not-false))
-    (λ c. search (crash-opened, not-false)))
+    (λ c. search needs)
+    (λ c. search (crash-told, not-false))
+    (λ c. search (crash-told, not-false))
+    (λ c. search (crash-told, not-false))
+    (λ c. search (crash-told, not-false))
+    (λ c. search (crash-told, not-false)))
