@@ -14,8 +14,10 @@
  *
  *     refusal = rushhopper_open_in(&rack, plan, 0);
  *     refusal = rushhopper_submit_in(&rack, first, 5);
+ *     conducted = rushhopper_conduct_in(&rack);                // all replicas close slot 0 with 5
  *
- * Document 01 says "controller" for replica, "spare" for f, "quota" for quorum (n - f), "dark" for crashed. */
+ * Document 01 says "controller" for replica, "spare" for f, "quota" for quorum (n - f), "lit" for running, "dark" for
+ * crashed. */
 #ifndef RUSHHOPPER_H
 #define RUSHHOPPER_H
 
@@ -64,8 +66,8 @@ struct rushhopper_message {
     struct rushhopper_replica sender;
 };
 
-/* Document 01's refusals; its own word stands behind a name that differs. 13, 14 and 15 are given only where the replica has
- * heard no notice of its current slot. The last three occur in step files only. */
+/* The refusals of documents 01 and 02; their own word stands behind a name that differs. 13, 14 and 15 are given only where
+ * the replica has heard no notice of its current slot. 19, 20 and 21 occur in step files only, 22 and 23 in none. */
 enum rushhopper_refusal {
     RUSHHOPPER_ACCEPTED = 0,
     RUSHHOPPER_BAD_PLAN = 1,          /* opening or strip: a number beyond the limits */
@@ -78,8 +80,8 @@ enum rushhopper_refusal {
     RUSHHOPPER_TAG_ROOM_FULL = 8,     /* submit of an unknown tag, no room */
     RUSHHOPPER_UNKNOWN_TAG = 9,       /* relay of a tag never submitted */
     RUSHHOPPER_BUSY = 10,             /* begin in a round */
-    RUSHHOPPER_LOG_FULL = 11,         /* begin, all slots closed */
-    RUSHHOPPER_NOTHING_PENDING = 12,  /* begin, no pending tag */
+    RUSHHOPPER_LOG_FULL = 11,         /* begin or conduct, all slots closed */
+    RUSHHOPPER_NOTHING_PENDING = 12,  /* begin or conduct, no pending tag: at that replica, at any running one */
     RUSHHOPPER_NOT_BEGUN = 13,        /* "idle": advance or run on while idle, no notice heard for the next slot */
     RUSHHOPPER_TOO_FEW_HEARD = 14,    /* below the quorum; in the find round, no majority */
     RUSHHOPPER_PHASES_USED_UP = 15,   /* the vote round of the last phase would go on to another */
@@ -88,13 +90,17 @@ enum rushhopper_refusal {
     RUSHHOPPER_ALREADY_HEARD = 18,    /* "heard": the receiver has heard it; its own, since it was sent */
     RUSHHOPPER_UNKNOWN_KIND = 19,     /* a record of no known kind */
     RUSHHOPPER_CUT_RECORD = 20,       /* the file ends inside a record */
-    RUSHHOPPER_OUT_OF_PLACE = 21      /* a step before an accepted opening, or an opening after one */
+    RUSHHOPPER_OUT_OF_PLACE = 21,     /* a step before an accepted opening, or an opening after one */
+    RUSHHOPPER_NOT_LEVEL = 22,        /* conduct: not all running ones idle at one slot, or a message of it was sent */
+    RUSHHOPPER_TOO_FEW_RUNNING = 23   /* "too few lit": conduct, fewer replicas running than the quorum */
 };
 
 /* refusal 0: the numbers of the run that was opened (phases 0 became RUSHHOPPER_DEFAULT_PHASES); else all 0 */
 struct rushhopper_opened { size_t refusal; struct rushhopper_numbers numbers; };
 /* refusal 0: how many advances were accepted; else 0 */
 struct rushhopper_ran { size_t refusal, advances; };
+/* refusal 0: how many steps besides relays, and how many relays, were accepted; else both 0 */
+struct rushhopper_conducted { size_t refusal, steps, relays; };
 /* written: how many bytes of the report stand in the buffer; opened: whether (1) the file opened a run, and its numbers,
  * else all 0 */
 struct rushhopper_played { size_t written, opened; struct rushhopper_numbers numbers; };
@@ -207,6 +213,19 @@ struct rushhopper_ran rushhopper_run_on(struct rushhopper_numbers numbers, struc
  * any record. Refusals 3, 4, 5. */
 size_t rushhopper_crash(struct rushhopper_numbers numbers, struct rushhopper_replica who, struct rushhopper_record *record);
 
+/* Takes all running replicas through their next slot, with no hearing named. They must be at least a quorum and all idle at
+ * the same slot, and nobody, running or crashed, may have sent a message of that slot; a notice is one, too.
+ *
+ * The smallest tag that is pending at any of them is relayed to those that do not hold it, and each begins. In the exchange,
+ * and in the state and vote rounds of phase 1, each then hears each other, and then each advances; all in the order of their
+ * numbers. No notice is heard. In a run from an accepted opening this closes the slot with that tag at all L of them, in
+ * exactly 3 * L * L + L steps besides at most L - 1 relays: 30 steps for three. In memories that no run leaves, a step that is
+ * refused on the way is passed over and not counted, and the slot may stay open.
+ *
+ * Refusals 3, 2, 23, 22, 11, 12, in this order: no replica is named, so there is no 4 or 5. */
+struct rushhopper_conducted rushhopper_conduct(struct rushhopper_numbers numbers,
+                                               RUSHHOPPER_MEMORIES, const uint8_t *strip, size_t strip_length);
+
 /* Plays a step file on memories for at most the numbers `most` and writes its report, as the rehearsal program does. An
  * opening of more replicas, slots, phases or room than `most` gets refusal 2, and so does one that the memories or the strip
  * are too short for; most.f is not looked at. A file may have any length: the limit of 65,536 bytes is the rehearsal
@@ -301,6 +320,11 @@ static inline struct rushhopper_ran rushhopper_run_on_in(struct rushhopper_memor
     return rushhopper_run_on(rack->numbers, who, RUSHHOPPER_LENT(rack));
 }
 
+static inline struct rushhopper_conducted rushhopper_conduct_in(struct rushhopper_memories *rack)
+{
+    return rushhopper_conduct(rack->numbers, RUSHHOPPER_LENT(rack));
+}
+
 /* How many tags are known. */
 static inline size_t rushhopper_known_of(const struct rushhopper_memories *rack)
 {
@@ -368,13 +392,14 @@ static inline struct rushhopper_played rushhopper_play_in(struct rushhopper_memo
     return played;
 }
 
-/* Document 01's word for a refusal. */
+/* The documents' word for a refusal. */
 static inline const char *rushhopper_word(size_t refusal)
 {
     static const char *const words[] = {
         "accepted", "bad plan", "short table", "spoiled record", "no such bench", "dark", "blank tag", "held",
         "tag room full", "unknown tag", "busy", "log full", "nothing pending", "idle", "too few heard",
-        "phases used up", "no such message", "unsent", "heard", "unknown kind", "cut record", "out of place"
+        "phases used up", "no such message", "unsent", "heard", "unknown kind", "cut record", "out of place",
+        "not level", "too few lit"
     };
 
     return refusal < sizeof words / sizeof words[0] ? words[refusal] : "no such refusal";

@@ -24,7 +24,7 @@ The text has one step to a line; blank lines and what follows a # are passed ove
 A tag is a decimal number, or TIME:NUMBER for TIME times 2^32 plus NUMBER. Any number that fits its bytes can be written,
 also one that the library refuses; a sort that has no name is written as its number. A phase that is left out is 0, but a
 state or vote wants one. The rehearsal program has tables for 7 controllers, 16 slots, 16 phases and 64 tags: larger openings
-get refusal 2 there.
+get refusal 2 there. The conductor has no kind of record: its steps are written one by one.
 """
 
 import argparse
@@ -106,6 +106,8 @@ REFUSALS = {
     UNKNOWN_KIND: ("unknown kind", "no step has this kind"),
     CUT_RECORD: ("cut record", "the file ends inside a body"),
     21: ("out of place", "step before an accepted opening, or opening after one"),
+    22: ("not level", "conductor: not all lit ones idle at one slot, or a message of that slot was sent"),
+    23: ("too few lit", "conductor: fewer lit than the quota"),
 }
 
 
@@ -174,6 +176,8 @@ def read_line(words):
         name = kind.word.split()
         if words[: len(name)] == name:
             return Step(kind, read_words(kind, words[len(name) :]))
+    if words[0] in ("conduct", "conductor"):
+        raise Mistakes(["step files have no kind for the conductor, a call of the library; write its steps one by one"])
     *others, last = [kind.word for kind in KINDS]
     raise Mistakes([f"no step is called '{words[0]}'; expected {', '.join(others)} or {last}"])
 

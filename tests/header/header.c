@@ -69,6 +69,7 @@ static void nothing_goes_before_an_opening(void)
 
     EXPECT(rushhopper_submit_in(&rack, zero, 5) == RUSHHOPPER_SPOILED_RECORD);
     EXPECT(rushhopper_crash_in(&rack, zero) == RUSHHOPPER_SPOILED_RECORD);
+    EXPECT(rushhopper_conduct_in(&rack).refusal == RUSHHOPPER_SPOILED_RECORD);
     EXPECT(rushhopper_fill_strip_in(&rack, 0) == RUSHHOPPER_BAD_PLAN);
     EXPECT(rushhopper_open_in(&rack, bad, 0) == RUSHHOPPER_BAD_PLAN);
     EXPECT(rushhopper_open_in(&rack, larger, 0) == RUSHHOPPER_SHORT_TABLE);
@@ -315,6 +316,154 @@ static void a_run_on_counts_its_advances(void)
     EXPECT(ran.refusal == RUSHHOPPER_ACCEPTED && ran.advances == 3);
 }
 
+static void expect_conducted(struct rushhopper_memories *memories, size_t steps, size_t relays)
+{
+    const struct rushhopper_conducted conducted = rushhopper_conduct_in(memories);
+
+    EXPECT(conducted.refusal == RUSHHOPPER_ACCEPTED && conducted.steps == steps && conducted.relays == relays);
+}
+
+/* The conductor is refused and leaves everything lent as it was. */
+static void expect_not_conducted(size_t refusal)
+{
+    static uint16_t words[sizeof rack_words / sizeof rack_words[0]];
+    static uint64_t orders[sizeof rack_orders / sizeof rack_orders[0]];
+    static uint8_t ballots[sizeof rack_ballots], strip[sizeof rack_strip];
+    struct rushhopper_conducted conducted;
+
+    memcpy(words, rack_words, sizeof words);
+    memcpy(orders, rack_orders, sizeof orders);
+    memcpy(ballots, rack_ballots, sizeof ballots);
+    memcpy(strip, rack_strip, sizeof strip);
+    conducted = rushhopper_conduct_in(&rack);
+    EXPECT(conducted.refusal == refusal && conducted.steps == 0 && conducted.relays == 0);
+    EXPECT(memcmp(words, rack_words, sizeof words) == 0 && memcmp(orders, rack_orders, sizeof orders) == 0);
+    EXPECT(memcmp(ballots, rack_ballots, sizeof ballots) == 0 && memcmp(strip, rack_strip, sizeof strip) == 0);
+}
+
+/* Whether a replica is idle and has closed this many slots, the last of them with this entry. */
+static int stands_behind(struct rushhopper_replica who, size_t closed, uint64_t entry)
+{
+    const struct rushhopper_record record = rushhopper_record_of(&rack, who);
+    const struct rushhopper_slot last = {closed - 1};
+
+    return record.round == RUSHHOPPER_ROUND_IDLE && record.slot == closed && rushhopper_entry_of(&rack, who, last) == entry;
+}
+
+/* The smaller tag first, wherever it is held; the second slot needs one relay less. No notice was heard on the way. */
+static void slots_are_conducted(void)
+{
+    const struct rushhopper_message notice = {RUSHHOPPER_SORT_NOTICE, {0}, {0}, two};
+
+    EXPECT(rushhopper_open_in(&rack, three, 0) == RUSHHOPPER_ACCEPTED);
+    EXPECT(rushhopper_submit_in(&rack, zero, 7) == RUSHHOPPER_ACCEPTED);
+    EXPECT(rushhopper_relay_in(&rack, one, 7) == RUSHHOPPER_ACCEPTED);
+    EXPECT(rushhopper_submit_in(&rack, two, 5) == RUSHHOPPER_ACCEPTED);
+    expect_conducted(&rack, 30, 2);
+    EXPECT(stands_behind(zero, 1, 5) && stands_behind(one, 1, 5) && stands_behind(two, 1, 5));
+    EXPECT(rushhopper_hear_in(&rack, zero, notice) == RUSHHOPPER_ACCEPTED);
+    expect_conducted(&rack, 30, 1);
+    EXPECT(stands_behind(zero, 2, 7) && stands_behind(one, 2, 7) && stands_behind(two, 2, 7));
+    expect_not_conducted(RUSHHOPPER_LOG_FULL);
+    EXPECT(rushhopper_submit_in(&rack, zero, 9) == RUSHHOPPER_ACCEPTED);
+    expect_not_conducted(RUSHHOPPER_LOG_FULL);
+}
+
+/* 3 * L * L + L steps for L running replicas: the crashed one of three takes no part, and its order waits. */
+static void any_number_of_running_replicas_is_conducted(void)
+{
+    const struct rushhopper_replica last = {14};
+
+    EXPECT(rushhopper_open_in(&smallest, alone, 0) == RUSHHOPPER_ACCEPTED);
+    EXPECT(rushhopper_submit_in(&smallest, zero, 7) == RUSHHOPPER_ACCEPTED);
+    expect_conducted(&smallest, 4, 0);
+    EXPECT(rushhopper_open_in(&largest, most, 0) == RUSHHOPPER_ACCEPTED);
+    EXPECT(rushhopper_submit_in(&largest, last, 7) == RUSHHOPPER_ACCEPTED);
+    expect_conducted(&largest, 690, 14);
+    EXPECT(rushhopper_open_in(&rack, three, 0) == RUSHHOPPER_ACCEPTED);
+    EXPECT(rushhopper_submit_in(&rack, one, 5) == RUSHHOPPER_ACCEPTED);
+    EXPECT(rushhopper_crash_in(&rack, one) == RUSHHOPPER_ACCEPTED);
+    expect_not_conducted(RUSHHOPPER_NOTHING_PENDING);
+    EXPECT(rushhopper_submit_in(&rack, two, 7) == RUSHHOPPER_ACCEPTED);
+    expect_conducted(&rack, 14, 1);
+    EXPECT(stands_behind(zero, 1, 7) && stands_behind(two, 1, 7) && rushhopper_record_of(&rack, one).slot == 0);
+    expect_not_conducted(RUSHHOPPER_NOTHING_PENDING);
+}
+
+/* Refusals 3, 2, 23, 22 and 12, each while those behind it are due too. A replica that has begun is not idle; once it has
+ * crashed, its proposal stands in the way for good. */
+static void a_conductor_refuses_in_its_order(void)
+{
+    size_t *const lengths[] = {&rack.words_length, &rack.orders_length, &rack.ballots_length, &rack.strip_length};
+    size_t i;
+
+    EXPECT(rushhopper_open_in(&rack, three, 0) == RUSHHOPPER_ACCEPTED);
+    expect_not_conducted(RUSHHOPPER_NOTHING_PENDING);
+    EXPECT(rushhopper_submit_in(&rack, one, 7) == RUSHHOPPER_ACCEPTED);
+    EXPECT(rushhopper_begin_in(&rack, one) == RUSHHOPPER_ACCEPTED);
+    expect_not_conducted(RUSHHOPPER_NOT_LEVEL);
+    EXPECT(rushhopper_crash_in(&rack, one) == RUSHHOPPER_ACCEPTED);
+    expect_not_conducted(RUSHHOPPER_NOT_LEVEL);
+    EXPECT(rushhopper_crash_in(&rack, two) == RUSHHOPPER_ACCEPTED);
+    expect_not_conducted(RUSHHOPPER_TOO_FEW_RUNNING);
+    EXPECT(rushhopper_crash_in(&rack, zero) == RUSHHOPPER_ACCEPTED);
+    expect_not_conducted(RUSHHOPPER_TOO_FEW_RUNNING);
+    for (i = 0; i < sizeof lengths / sizeof lengths[0]; i++) {
+        --*lengths[i];
+        expect_not_conducted(RUSHHOPPER_SHORT_TABLE);
+        rack.numbers.f = 2;
+        expect_not_conducted(RUSHHOPPER_SPOILED_RECORD);
+        rack.numbers.f = 1;
+        ++*lengths[i];
+    }
+}
+
+/* Two have closed slot 0 and the third has not; told of it, it closes too, and the next slot can be conducted. */
+static void a_notice_makes_a_rack_level(void)
+{
+    const struct rushhopper_message notice = {RUSHHOPPER_SORT_NOTICE, {0}, {0}, one};
+
+    two_close_the_first_slot(7, 7);
+    EXPECT(rushhopper_submit_in(&rack, zero, 9) == RUSHHOPPER_ACCEPTED);
+    expect_not_conducted(RUSHHOPPER_NOT_LEVEL);
+    EXPECT(rushhopper_hear_in(&rack, two, notice) == RUSHHOPPER_ACCEPTED);
+    expect_not_conducted(RUSHHOPPER_NOT_LEVEL);
+    EXPECT(rushhopper_advance_in(&rack, two) == RUSHHOPPER_ACCEPTED);
+    expect_conducted(&rack, 30, 2);
+    EXPECT(stands_behind(zero, 2, 9) && stands_behind(one, 2, 9) && stands_behind(two, 2, 9));
+}
+
+/* No run leaves a replica in a round without a message of it, or one that has closed a slot which no other has begun: of that
+ * slot only its notice is sent. */
+static void records_alone_keep_a_rack_from_being_level(void)
+{
+    uint16_t *const record = rack.words + 1 + 4 * two.number;
+
+    EXPECT(rushhopper_open_in(&rack, three, 0) == RUSHHOPPER_ACCEPTED);
+    EXPECT(rushhopper_submit_in(&rack, zero, 5) == RUSHHOPPER_ACCEPTED);
+    record[1] = RUSHHOPPER_ROUND_EXCHANGE;
+    expect_not_conducted(RUSHHOPPER_NOT_LEVEL);
+    EXPECT(rushhopper_crash_in(&rack, two) == RUSHHOPPER_ACCEPTED);
+    record[2] = 1;
+    expect_not_conducted(RUSHHOPPER_NOT_LEVEL);
+    record[2] = 0;
+    expect_conducted(&rack, 14, 1);
+}
+
+/* No run leaves a log that lacks what the others have logged. 5 is pending at replica 0 alone: it begins, both others hear
+ * that, and everything else is refused and not counted. */
+static void refused_steps_are_passed_over(void)
+{
+    EXPECT(rushhopper_open_in(&rack, three, 0) == RUSHHOPPER_ACCEPTED);
+    EXPECT(rushhopper_submit_in(&rack, zero, 5) == RUSHHOPPER_ACCEPTED);
+    expect_conducted(&rack, 30, 2);
+    rack.orders[rack.numbers.room + rack.numbers.slots * rack.numbers.n] = 9;
+    expect_conducted(&rack, 3, 0);
+    EXPECT(rushhopper_record_of(&rack, zero).round == RUSHHOPPER_ROUND_EXCHANGE);
+    EXPECT(stands_behind(one, 1, 5) && stands_behind(two, 1, 5));
+    expect_not_conducted(RUSHHOPPER_NOT_LEVEL);
+}
+
 static void words_are_the_documents(void)
 {
     static const struct { size_t refusal; const char *word; } expected[] = {
@@ -326,13 +475,15 @@ static void words_are_the_documents(void)
         {RUSHHOPPER_TOO_FEW_HEARD, "too few heard"}, {RUSHHOPPER_PHASES_USED_UP, "phases used up"},
         {RUSHHOPPER_NO_SUCH_MESSAGE, "no such message"}, {RUSHHOPPER_NOT_SENT, "unsent"},
         {RUSHHOPPER_ALREADY_HEARD, "heard"}, {RUSHHOPPER_UNKNOWN_KIND, "unknown kind"},
-        {RUSHHOPPER_CUT_RECORD, "cut record"}, {RUSHHOPPER_OUT_OF_PLACE, "out of place"}
+        {RUSHHOPPER_CUT_RECORD, "cut record"}, {RUSHHOPPER_OUT_OF_PLACE, "out of place"},
+        {RUSHHOPPER_NOT_LEVEL, "not level"}, {RUSHHOPPER_TOO_FEW_RUNNING, "too few lit"}
     };
     size_t i;
 
     for (i = 0; i < sizeof expected / sizeof expected[0]; i++)
         EXPECT(strcmp(rushhopper_word(expected[i].refusal), expected[i].word) == 0);
-    EXPECT(strcmp(rushhopper_word(RUSHHOPPER_OUT_OF_PLACE + 1), "no such refusal") == 0);
+    EXPECT(RUSHHOPPER_NOT_LEVEL == 22 && RUSHHOPPER_TOO_FEW_RUNNING == 23);
+    EXPECT(strcmp(rushhopper_word(RUSHHOPPER_TOO_FEW_RUNNING + 1), "no such refusal") == 0);
 }
 
 int main(void)
@@ -351,6 +502,12 @@ int main(void)
     a_notice_closes_a_slot(7, 7, 7);
     a_notice_closes_a_slot(7, 9, 0);
     a_run_on_counts_its_advances();
+    slots_are_conducted();
+    any_number_of_running_replicas_is_conducted();
+    a_conductor_refuses_in_its_order();
+    a_notice_makes_a_rack_level();
+    records_alone_keep_a_rack_from_being_level();
+    refused_steps_are_passed_over();
     a_file_is_played();
     a_player_refuses_what_its_memories_cannot_hold();
     more_than_16_phases_are_refused();

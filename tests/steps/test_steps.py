@@ -151,6 +151,11 @@ class Mistaken(unittest.TestCase):
         self.check("Begin 0", f"no step is called 'Begin'; {STEPS_WANTED}")
         self.check("run 0", f"no step is called 'run'; {STEPS_WANTED}")
 
+    def test_no_kind_for_the_conductor(self):
+        said = "step files have no kind for the conductor, a call of the library; write its steps one by one"
+        for text in ("conduct", "conduct 0 # a slot", "conductor"):
+            self.check(text, said)
+
     def test_count_of_words(self):
         self.check("opening 3 1 2 4 4", "opening wants 6 words (n, f, slots, phases, room, start), not 5")
         self.check("submit 0", "submit wants 2 words (controller, tag), not 1")
@@ -214,6 +219,7 @@ class Commands(unittest.TestCase):
         self.assertEqual(status, 0)
         self.assertIn("opening 3 1 2 4 4 0 # n f slots phases room start; a phase limit of 0 stands for 16", said)
         self.assertIn("16 phases and 64 tags: larger openings get refusal 2 there", said)
+        self.assertIn("The conductor has no kind of record", said)
 
     def test_worked_session(self):
         text = ROOT / "examples" / "worked_session.txt"
@@ -262,14 +268,15 @@ class Commands(unittest.TestCase):
         for line, why in (
             ("refused 2 21", "the file ends with record 1"),
             ("refused 0 21", "the file ends with record 1"),
-            ("refused 1 22", "no refusal has this number"),
+            ("refused 1 24", "no refusal has this number"),
         ):
             self.assertEqual(command("explain", path, "-", given=line.encode()), (1, b"", f"'{line}': {why}\n"))
         both = "FILE and REPORT cannot both be standard input\n"
         self.assertEqual(command("explain", "-", "-"), (1, b"", both))
 
     def test_every_refusal_has_its_words(self):
-        self.assertEqual(sorted(steps.REFUSALS), list(range(1, 22)))
+        self.assertEqual(sorted(steps.REFUSALS), list(range(1, 24)))
+        self.assertEqual([steps.REFUSALS[number][0] for number in (22, 23)], ["not level", "too few lit"])
 
 
 class Examples(unittest.TestCase):

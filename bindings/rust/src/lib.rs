@@ -15,6 +15,22 @@
 //! # Ok::<(), Refusal>(())
 //! ```
 //!
+//! Nobody has to name each hearing: [`Rack::conduct`] takes all running replicas through a slot.
+//!
+//! ```
+//! use rushhopper::{Conducted, Numbers, Plan, Rack, Refusal, Replica};
+//!
+//! let plan = Plan { numbers: Numbers { n: 3, f: 1, slots: 2, phases: 0, room: 4 }, start: 0 };
+//! let mut rack = Rack::open(plan)?;
+//! rack.submit(Replica(1), 7)?;
+//! assert_eq!(rack.conduct(), Ok(Conducted { steps: 30, relays: 2 }));
+//! for who in rack.replicas() {
+//!     assert_eq!(rack.log(who), [7]);
+//! }
+//! assert_eq!(rack.conduct(), Err(Refusal::NothingPending));
+//! # Ok::<(), Refusal>(())
+//! ```
+//!
 //! Replicas, slots and phases are separate types, and one is not accepted for another:
 //!
 //! ```compile_fail,E0308
@@ -24,7 +40,7 @@
 //! # }
 //! ```
 //!
-//! Document 01 says "controller" for replica, "spare" for f, "quota" for quorum and "dark" for crashed.
+//! Document 01 says "controller" for replica, "spare" for f, "quota" for quorum, "lit" for running and "dark" for crashed.
 
 mod numbers;
 mod play;
@@ -32,7 +48,7 @@ mod rack;
 mod raw;
 mod refusal;
 
-pub use numbers::{Numbers, Phase, Plan, Replica, Slot};
+pub use numbers::{Conducted, Numbers, Phase, Plan, Replica, Slot};
 pub use play::{play, play_within};
 pub use rack::{Message, Rack, Record, Round};
 pub use refusal::Refusal;

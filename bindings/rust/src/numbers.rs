@@ -1,4 +1,5 @@
-//! The numbers of a run, and the three kinds of index. Those that cross the boundary are laid out as in C.
+//! The numbers of a run, the three kinds of index, and what a conductor counts. Those that cross the boundary are laid out
+//! as in C.
 
 /// The number of a replica, from 0.
 #[repr(C)]
@@ -29,6 +30,16 @@ pub struct Numbers {
     pub phases: usize,
     /// How many tags can be known, 1 to 256.
     pub room: usize,
+}
+
+/// How many steps a conductor made in a slot.
+#[repr(C)]
+#[derive(Clone, Copy, Debug, PartialEq, Eq, Hash)]
+pub struct Conducted {
+    /// Begins, hears and advances: 3L² + L for L running replicas.
+    pub steps: usize,
+    /// Relays, at most L - 1.
+    pub relays: usize,
 }
 
 /// What an opening asks for.

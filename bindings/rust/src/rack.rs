@@ -1,6 +1,6 @@
 //! A run and its memories.
 
-use crate::numbers::{Numbers, Phase, Plan, Replica, Slot};
+use crate::numbers::{Conducted, Numbers, Phase, Plan, Replica, Slot};
 use crate::raw::{Memories, Sent};
 use crate::refusal::Refusal;
 
@@ -88,6 +88,22 @@ impl Rack {
     /// Advances until a slot is closed or the next advance is refused; answers the count of accepted ones.
     pub fn run_on(&mut self, who: Replica) -> Result<usize, Refusal> {
         self.memories.run_on(self.numbers, who)
+    }
+
+    /// Takes all running replicas through their next slot, with no hearing named: the smallest tag that is pending at any of
+    /// them is relayed to those that do not hold it, and each begins; in the exchange, and in the state and vote rounds of
+    /// phase 1, each hears each other, and then each advances. That closes the slot with that tag at all of them.
+    ///
+    /// Refused with
+    /// - [`Refusal::TooFewRunning`] if the running replicas are fewer than the quorum, n - f;
+    /// - [`Refusal::NotLevel`] if they are not all idle at the same slot, or if any replica, a crashed one too, has sent a
+    ///   message of that slot (one that was left behind draws level when it hears a notice and advances);
+    /// - [`Refusal::LogFull`] if all slots are closed;
+    /// - [`Refusal::NothingPending`] if no running replica has a pending tag.
+    ///
+    /// It hears no notices.
+    pub fn conduct(&mut self) -> Result<Conducted, Refusal> {
+        self.memories.conduct(self.numbers)
     }
 
     /// The replica stops for good. What it has sent can still be heard.

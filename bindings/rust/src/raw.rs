@@ -1,7 +1,7 @@
 //! The library's functions as `include/rushhopper.h` declares them, and the memories that are lent to them. All that is
 //! unsafe is here.
 
-use crate::numbers::{Numbers, Phase, Plan, Replica, Slot};
+use crate::numbers::{Conducted, Numbers, Phase, Plan, Replica, Slot};
 use crate::refusal::{accepted, Refusal};
 
 #[repr(C)]
@@ -14,6 +14,13 @@ struct Opened {
 struct Ran {
     refusal: usize,
     advances: usize,
+}
+
+/// The three numbers of the header's `rushhopper_conducted`, in its order.
+#[repr(C)]
+struct Conduct {
+    refusal: usize,
+    conducted: Conducted,
 }
 
 /// The report itself says what the last two say.
@@ -80,6 +87,7 @@ declare! {
     ) -> usize;
     fn rushhopper_advance(numbers: Numbers, who: Replica; *const u8) -> usize;
     fn rushhopper_run_on(numbers: Numbers, who: Replica; *const u8) -> Ran;
+    fn rushhopper_conduct(numbers: Numbers; *const u8) -> Conduct;
     fn rushhopper_play(
         most: Numbers, file: *const u8, file_length: usize, report: *mut u8, report_length: usize; *mut u8
     ) -> Played;
@@ -165,6 +173,11 @@ impl Memories {
     pub fn run_on(&mut self, numbers: Numbers, who: Replica) -> Result<usize, Refusal> {
         let ran = lend!(self, as_ptr, rushhopper_run_on(numbers, who));
         accepted(ran.refusal).map(|()| ran.advances)
+    }
+
+    pub fn conduct(&mut self, numbers: Numbers) -> Result<Conducted, Refusal> {
+        let conduct = lend!(self, as_ptr, rushhopper_conduct(numbers));
+        accepted(conduct.refusal).map(|()| conduct.conducted)
     }
 
     /// Lends the record in the memory itself. A replica that is not of the run has none there, and the call looks at no

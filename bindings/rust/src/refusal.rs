@@ -3,7 +3,8 @@
 use std::error::Error;
 use std::fmt;
 
-/// Document 01's refusals with their numbers; `Display` gives the document's own word.
+/// The refusals of documents 01 and 02 with their numbers; `Display` gives the document's own word. 19, 20 and 21 occur in
+/// step files only, 22 and 23 in none.
 #[derive(Clone, Copy, Debug, PartialEq, Eq, Hash)]
 pub enum Refusal {
     BadPlan = 1,
@@ -27,10 +28,12 @@ pub enum Refusal {
     UnknownKind = 19,
     CutRecord = 20,
     OutOfPlace = 21,
+    NotLevel = 22,
+    TooFewRunning = 23,
 }
 
 /// By their numbers, from 1.
-const WORDS: [(Refusal, &str); 21] = [
+const WORDS: [(Refusal, &str); 23] = [
     (Refusal::BadPlan, "bad plan"),
     (Refusal::ShortTable, "short table"),
     (Refusal::SpoiledRecord, "spoiled record"),
@@ -52,6 +55,8 @@ const WORDS: [(Refusal, &str); 21] = [
     (Refusal::UnknownKind, "unknown kind"),
     (Refusal::CutRecord, "cut record"),
     (Refusal::OutOfPlace, "out of place"),
+    (Refusal::NotLevel, "not level"),
+    (Refusal::TooFewRunning, "too few lit"),
 ];
 
 impl Refusal {
@@ -59,7 +64,7 @@ impl Refusal {
         self as usize
     }
 
-    /// Document 01's word.
+    /// The document's word.
     pub fn word(self) -> &'static str {
         WORDS[self.number() - 1].1
     }
@@ -82,7 +87,7 @@ impl Error for Refusal {}
 pub(crate) fn accepted(answer: usize) -> Result<(), Refusal> {
     match answer {
         0 => Ok(()),
-        number => Err(Refusal::of_number(number).expect("an answer of document 01's table")),
+        number => Err(Refusal::of_number(number).expect("an answer of the documents' table")),
     }
 }
 
@@ -97,6 +102,6 @@ mod tests {
             assert_eq!(Refusal::of_number(place + 1), Some(refusal));
             assert_eq!(refusal.to_string(), word);
         }
-        assert_eq!((Refusal::of_number(0), Refusal::of_number(22)), (None, None));
+        assert_eq!((Refusal::of_number(0), Refusal::of_number(24)), (None, None));
     }
 }

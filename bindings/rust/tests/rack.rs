@@ -1,6 +1,6 @@
 //! Runs through the calls of a rack.
 
-use rushhopper::{Message, Numbers, Phase, Plan, Rack, Record, Refusal, Replica, Round, Slot};
+use rushhopper::{Conducted, Message, Numbers, Phase, Plan, Rack, Record, Refusal, Replica, Round, Slot};
 
 const FIRST: Slot = Slot(0);
 
@@ -238,4 +238,174 @@ fn the_strip_decides_a_quarrel() {
             assert_eq!(rack.log(who), [logged]);
         }
     }
+}
+
+/// The replicas that run, in their order.
+fn running(rack: &Rack) -> Vec<Replica> {
+    let runs = |who: &Replica| rack.record(*who).is_some_and(|record| !record.crashed);
+    rack.replicas().filter(runs).collect()
+}
+
+/// What a conductor does in the first slot with this tag, by single steps, each of which is accepted.
+fn conducted_by_hand(rack: &mut Rack, tag: u64) -> Conducted {
+    let running = running(rack);
+    let (mut steps, mut relays) = (0, 0);
+    for &who in &running {
+        match rack.relay(who, tag) {
+            Ok(()) => relays += 1,
+            held => assert_eq!(held, Err(Refusal::AlreadyHeld)),
+        }
+    }
+    for &who in &running {
+        assert_eq!(rack.begin(who), Ok(()));
+        steps += 1;
+    }
+    for message in [Message::Proposal(FIRST), state(1), vote(1)] {
+        for &receiver in &running {
+            for &sender in running.iter().filter(|&&sender| sender != receiver) {
+                assert_eq!(rack.hear(receiver, sender, message), Ok(()));
+                steps += 1;
+            }
+        }
+        for &who in &running {
+            assert_eq!(rack.advance(who), Ok(()));
+            steps += 1;
+        }
+    }
+    Conducted { steps, relays }
+}
+
+fn conducted(steps: usize, relays: usize) -> Result<Conducted, Refusal> {
+    Ok(Conducted { steps, relays })
+}
+
+/// The conductor is refused and changes nothing.
+fn not_conducted(rack: &mut Rack, refusal: Refusal) {
+    let before = rack.clone();
+    assert_eq!(rack.conduct(), Err(refusal));
+    assert_eq!(*rack, before);
+}
+
+#[test]
+fn the_smallest_pending_tag_is_conducted() {
+    let mut rack = Rack::open(plan(3, 1, 2)).expect("a plan within the limits");
+    assert_eq!(rack.submit(Replica(0), 9), Ok(()));
+    assert_eq!(rack.relay(Replica(1), 9), Ok(()));
+    assert_eq!(rack.submit(Replica(2), 5), Ok(()));
+    assert_eq!(rack.conduct(), conducted(30, 2));
+    let closed = Record { crashed: false, round: Round::Idle, slot: Slot(1) };
+    for who in rack.replicas() {
+        assert_eq!((rack.record(who), rack.log(who)), (Some(closed), &[5][..]));
+    }
+    assert_eq!(rack.conduct(), conducted(30, 1));
+    for who in rack.replicas() {
+        assert_eq!(rack.log(who), [5, 9]);
+    }
+    not_conducted(&mut rack, Refusal::LogFull);
+    assert_eq!(rack.submit(Replica(0), 7), Ok(()));
+    not_conducted(&mut rack, Refusal::LogFull);
+}
+
+/// In every rack with any number of crashed replicas that a quorum allows; the tag is held by one, or by all.
+#[test]
+fn a_conductor_makes_the_single_steps() {
+    for n in 1..=15 {
+        let f = (n - 1) / 2;
+        for (crashes, all_hold) in (0..=f).flat_map(|crashes| [(crashes, false), (crashes, true)]) {
+            let mut rack = Rack::open(plan(n, f, 1)).expect("a plan within the limits");
+            let last = Replica(n - 1);
+            assert_eq!(rack.submit(last, 5), Ok(()));
+            for who in 0..crashes {
+                assert_eq!(rack.crash(Replica(2 * who)), Ok(()));
+            }
+            let running = running(&rack);
+            for &who in running.iter().filter(|&&who| all_hold && who != last) {
+                assert_eq!(rack.relay(who, 5), Ok(()));
+            }
+            let mut by_hand = rack.clone();
+            let expected = conducted_by_hand(&mut by_hand, 5);
+            let relays = if all_hold { 0 } else { running.len() - 1 };
+            assert_eq!(expected, Conducted { steps: 3 * running.len().pow(2) + running.len(), relays });
+            assert_eq!((rack.conduct(), &rack), (Ok(expected), &by_hand));
+            for who in rack.replicas() {
+                assert_eq!(rack.log(who), if running.contains(&who) { &[5][..] } else { &[] });
+            }
+        }
+    }
+}
+
+/// Its order waits, since no other holds it; what one has sent before it crashed stands in the way for good.
+#[test]
+fn crashed_replicas_take_no_part() {
+    let mut rack = Rack::open(plan(5, 2, 2)).expect("a plan within the limits");
+    assert_eq!(rack.submit(Replica(1), 5), Ok(()));
+    assert_eq!(rack.crash(Replica(1)), Ok(()));
+    not_conducted(&mut rack, Refusal::NothingPending);
+    assert_eq!(rack.submit(Replica(4), 9), Ok(()));
+    assert_eq!(rack.conduct(), conducted(52, 3));
+    assert_eq!((rack.log(Replica(0)), rack.log(Replica(1))), (&[9][..], &[][..]));
+    assert_eq!(rack.submit(Replica(2), 7), Ok(()));
+    assert_eq!(rack.begin(Replica(2)), Ok(()));
+    not_conducted(&mut rack, Refusal::NotLevel);
+    assert_eq!(rack.crash(Replica(2)), Ok(()));
+    assert_eq!(rack.submit(Replica(0), 8), Ok(()));
+    not_conducted(&mut rack, Refusal::NotLevel);
+    assert_eq!(rack.crash(Replica(3)), Ok(()));
+    not_conducted(&mut rack, Refusal::TooFewRunning);
+    for who in [0, 4] {
+        assert_eq!(rack.crash(Replica(who)), Ok(()));
+        not_conducted(&mut rack, Refusal::TooFewRunning);
+    }
+}
+
+/// Also where f + 1 replicas are fewer than a quorum.
+#[test]
+fn a_conductor_wants_a_quorum() {
+    for (n, f) in [(1, 0), (2, 0), (3, 0), (3, 1), (4, 1), (6, 2), (9, 3), (15, 0), (15, 7)] {
+        let mut rack = Rack::open(plan(n, f, 1)).expect("a plan within the limits");
+        let last = Replica(n - 1);
+        assert_eq!(rack.submit(last, 5), Ok(()));
+        for who in 0..f {
+            assert_eq!(rack.crash(Replica(who)), Ok(()));
+        }
+        let quorum = n - f;
+        assert_eq!(rack.clone().conduct(), conducted(3 * quorum * quorum + quorum, quorum - 1));
+        assert_eq!(rack.crash(Replica(f)), Ok(()));
+        not_conducted(&mut rack, Refusal::TooFewRunning);
+    }
+}
+
+/// One replica, whichever it is, stands idle before the slot that both others have closed.
+#[test]
+fn a_conductor_wants_all_at_the_same_slot() {
+    for (behind, one, other) in [(0, 1, 2), (1, 0, 2), (2, 0, 1)] {
+        let mut rack = Rack::open(plan(3, 1, 2)).expect("a plan within the limits");
+        for who in [one, other] {
+            assert_eq!(rack.submit(Replica(who), 5), Ok(()));
+            assert_eq!(rack.begin(Replica(who)), Ok(()));
+        }
+        for message in [Message::Proposal(FIRST), state(1), vote(1)] {
+            round(&mut rack, message, &[(one, other), (other, one)]);
+        }
+        assert_eq!(rack.submit(Replica(behind), 9), Ok(()));
+        not_conducted(&mut rack, Refusal::NotLevel);
+        assert_eq!(rack.hear(Replica(behind), Replica(one), Message::Notice(FIRST)), Ok(()));
+        assert_eq!(rack.advance(Replica(behind)), Ok(()));
+        assert_eq!(rack.conduct(), conducted(30, 2));
+    }
+}
+
+/// Replica 2 is in a round that the others have left. It draws level by a notice; a conductor hears none.
+#[test]
+fn a_conductor_wants_all_idle() {
+    let mut rack = left_behind();
+    not_conducted(&mut rack, Refusal::NotLevel);
+    assert_eq!(rack.hear(Replica(2), Replica(1), Message::Notice(FIRST)), Ok(()));
+    not_conducted(&mut rack, Refusal::NotLevel);
+    assert_eq!(rack.advance(Replica(2)), Ok(()));
+    assert_eq!(rack.conduct(), conducted(30, 2));
+    for who in rack.replicas() {
+        assert_eq!(rack.log(who), [5, 9]);
+    }
+    assert_eq!(rack.hear(Replica(0), Replica(2), Message::Notice(Slot(1))), Ok(()));
 }
