@@ -253,6 +253,111 @@ SLIPS = [
     ("rules", "a close by a notice sends none", "        close(numbers, who, record, entry, memories);\n        return Ok(Advanced::ByNotice",
      "        memories.orders[numbers.log_cell(who, usize::from(record.slot))] = entry;\n"
      "        memories.set_record(who, Record { round: IDLE, slot: record.slot + 1, ..record });\n        return Ok(Advanced::ByNotice"),
+    # the conductor
+    ("conductor", "23 by a majority", "lit.len() < numbers.quorum()", "lit.len() < numbers.majority()"),
+    ("conductor", "23 at the quorum", "lit.len() < numbers.quorum()", "lit.len() <= numbers.quorum() && lit.len() < numbers.n"),
+    ("conductor", "23 only if nobody is lit", "lit.len() < numbers.quorum()", "lit.is_empty()"),
+    ("conductor", "23 if one has crashed", "lit.len() < numbers.quorum()", "lit.len() < numbers.n"),
+    ("conductor", "22 before 23", "        if lit.len() < numbers.quorum() {",
+     "        level_slot(numbers, &lit, memories).ok_or(Refusal::NotLevel)?;\n        if lit.len() < numbers.quorum() {"),
+    ("conductor", "22 before 23 where some are lit", "        if lit.len() < numbers.quorum() {",
+     "        if !lit.is_empty() {\n            level_slot(numbers, &lit, memories).ok_or(Refusal::NotLevel)?;\n        }\n"
+     "        if lit.len() < numbers.quorum() {"),
+    ("conductor", "11 before 22", "        let slot = level_slot(",
+     "        if lit.iter().any(|&who| memories.record(who).is_some_and(|record| usize::from(record.slot) == numbers.slots)) {\n"
+     "            return Err(Refusal::LogFull);\n        }\n        let slot = level_slot("),
+    ("conductor", "12 before 22", "        let slot = level_slot(",
+     "        let closed = |who| memories.record(who).map_or(0, |record| usize::from(record.slot));\n"
+     "        if lit.iter().all(|&who| memories.smallest_pending(numbers, who, closed(who)).is_none()) {\n"
+     "            return Err(Refusal::NothingPending);\n        }\n        let slot = level_slot("),
+    ("conductor", "12 before the conductor's 11", "        if slot == numbers.slots {",
+     "        let mut pending = lit.iter().filter_map(|&who| memories.smallest_pending(numbers, who, slot));\n"
+     "        if slot == numbers.slots && pending.next().is_some() {"),
+    ("conductor", "a full rack is not level", "return Err(Refusal::LogFull)", "return Err(Refusal::NotLevel)"),
+    ("conductor", "the conductor takes a short strip", "rules::admit_rack(numbers, memories)?;",
+     "rules::admit_rack(numbers, &Memories { strip: vec![0; 64 * 32], ..memories.clone() })?;"),
+    ("conductor", "the conductor gives 2 before 3", "rules::admit_rack(numbers, memories)?;",
+     "if numbers.within_limits() && !memories.fit(numbers) {\n            return Err(Refusal::ShortTable);\n        }\n"
+     "        rules::admit_rack(numbers, memories)?;"),
+    ("conductor", "23 before 2", "rules::admit_rack(numbers, memories)?;",
+     "if let Err(refusal) = rules::admit_rack(numbers, memories) {\n"
+     "            let few = refusal == Refusal::ShortTable && memories.lit(numbers).len() < numbers.quorum();\n"
+     "            return Err(if few { Refusal::TooFewLit } else { refusal });\n        }"),
+    ("conductor", "those in a round are level", "record.round == IDLE && ", ""),
+    ("conductor", "those behind the lowest lit one are level", " && usize::from(record.slot) == slot", ""),
+    ("conductor", "only the lowest lit one is looked at", "records.iter().all(level)", "records.iter().take(1).all(level)"),
+    ("conductor", "22 by the lit ones' messages only", "(0..numbers.n).any(|sender| memories.was_sent(",
+     "lit.iter().any(|&sender| memories.was_sent("),
+    ("conductor", "22 by the crashed ones' messages only", "(0..numbers.n).any(|sender| memories.was_sent(",
+     "(0..numbers.n).filter(|sender| !lit.contains(sender)).any(|sender| memories.was_sent("),
+    ("conductor", "22 overlooks notices", "        .messages(slot)\n", "        .messages(slot)\n        .filter(|message| message.sort != Sort::Notice)\n"),
+    ("conductor", "22 overlooks votes", "        .messages(slot)\n", "        .messages(slot)\n        .filter(|message| message.sort != Sort::Vote)\n"),
+    ("conductor", "22 overlooks states", "        .messages(slot)\n", "        .messages(slot)\n        .filter(|message| message.sort != Sort::State)\n"),
+    ("conductor", "22 overlooks proposals", "        .messages(slot)\n", "        .messages(slot)\n        .filter(|message| message.sort != Sort::Proposal)\n"),
+    ("conductor", "22 overlooks later phases", "        .messages(slot)\n", "        .messages(slot)\n        .filter(|message| message.phase < 2)\n"),
+    ("conductor", "22 overlooks the last phase", "        .messages(slot)\n",
+     "        .messages(slot)\n        .filter(|message| message.phase < numbers.phases.max(2))\n"),
+    ("conductor", "22 by the next slot's messages too", "        .messages(slot)\n", "        .messages(slot)\n        .chain(numbers.messages(slot + 1))\n"),
+    ("conductor", "22 by marks on unsent messages", "any(|sender| memories.was_sent(numbers, message, sender))",
+     "any(|sender| memories.was_sent(numbers, message, sender) || memories.words[numbers.heard_cell(message, sender)] != 0)"),
+    ("conductor", "the largest tag conducted", "pending.min()", "pending.max()"),
+    ("conductor", "the first lit one's tag conducted", "pending.min()", "{ pending }.next()"),
+    ("conductor", "the lowest lit one's tag conducted", "let pending = lit.iter()", "let pending = lit.iter().take(1)"),
+    ("conductor", "a crashed one's tag conducted", "let pending = lit.iter().filter_map(|&who| memories",
+     "let pending = (0..numbers.n).filter_map(|who| memories"),
+    ("conductor", "a tag that one has logged not conducted", "let tag = pending.min()",
+     "let tag = pending.filter(|tag| !lit.iter().any(|&who| memories.log(numbers, who, slot).contains(tag))).min()"),
+    ("conductor", "those with the tag in the log lack nothing", "!memories.holds(numbers, *who, tag)",
+     "!memories.holds(numbers, *who, tag) && !memories.log(numbers, *who, slot).contains(&tag)"),
+    ("conductor", "no relays", "filter(lacks)", "filter(lacks).take(0)"),
+    ("conductor", "one relay only", "filter(lacks)", "filter(lacks).take(1)"),
+    ("conductor", "the crashed ones hold the tag too", "    let steps = plan.steps()",
+     "    let place = memories.place(plan.tag).unwrap_or_default();\n"
+     "    (0..numbers.n).for_each(|who| memories.hold(numbers, place, who));\n"
+     "    let mut is_accepted = |call: &Call| call.make(numbers, memories).is_ok();\n    let steps = plan.steps()"),
+    ("conductor", "a relay counted among the steps", "Ok(Conducted { steps, relays })", "Ok(Conducted { steps: steps + relays, relays })"),
+    ("conductor", "begins not counted", "Ok(Conducted { steps, relays })", "Ok(Conducted { steps: steps.saturating_sub(plan.lit.len()), relays })"),
+    ("conductor", "one's own messages counted as heard", "Ok(Conducted { steps, relays })",
+     "Ok(Conducted { steps: steps + 3 * plan.lit.len(), relays })"),
+    ("conductor", "counts by the formula", "Ok(Conducted { steps, relays })",
+     "Ok(Conducted { steps: steps * 0 + 3 * plan.lit.len().pow(2) + plan.lit.len(), relays })"),
+    ("conductor", "relays counted as L - 1", "Ok(Conducted { steps, relays })",
+     "Ok(Conducted { steps, relays: relays * 0 + plan.lit.len() - 1 })"),
+    ("conductor", "counts changed about", "Ok(Conducted { steps, relays })", "Ok(Conducted { steps: relays, relays: steps })"),
+    ("conductor", "refused inner steps counted", "call.make(numbers, memories).is_ok();",
+     "{\n        let _ = call.make(numbers, memories);\n        true\n    };"),
+    ("conductor", "a refused inner step ends the call", "plan.steps().filter(&mut is_accepted)", "plan.steps().take_while(&mut is_accepted)"),
+    ("conductor", "a refused inner step refuses the call", "    let steps = plan.steps()",
+     "    let before = memories.clone();\n"
+     "    if let Some(refusal) = plan.steps().find_map(|call| call.make(numbers, memories).err()) {\n"
+     "        return Err(refusal);\n    }\n    *memories = before;\n"
+     "    let mut is_accepted = |call: &Call| call.make(numbers, memories).is_ok();\n    let steps = plan.steps()"),
+    ("conductor", "those that could not begin hear nothing", "    let steps = plan.steps()",
+     "    let mut plan = plan;\n"
+     "    plan.lit.retain(|&who| memories.smallest_pending(numbers, who, plan.slot).is_some());\n"
+     "    let mut is_accepted = |call: &Call| call.make(numbers, memories).is_ok();\n    let steps = plan.steps()"),
+    ("conductor", "only those begin that have the tag pending", "    let steps = plan.steps()",
+     "    let mut plan = plan;\n"
+     "    plan.lit.retain(|&who| memories.smallest_pending(numbers, who, plan.slot) == Some(plan.tag));\n"
+     "    let mut is_accepted = |call: &Call| call.make(numbers, memories).is_ok();\n    let steps = plan.steps()"),
+    ("conductor", "no vote round", "ROUNDS.into_iter().flat_map", "ROUNDS.into_iter().take(2).flat_map"),
+    ("conductor", "no begins", "        begins.chain(", "        begins.take(0).chain("),
+    ("conductor", "advances before hears", "hears.chain(advances)", "advances.chain(hears)"),
+    ("conductor", "a round without its last hear", "        hears.chain(advances)",
+     "        let count = (self.lit.len() * (self.lit.len() - 1)).saturating_sub(1);\n        hears.take(count).chain(advances)"),
+    ("conductor", "the votes are not heard", "        hears.chain(advances)",
+     "        hears.filter(move |_| sort != Sort::Vote).chain(advances)"),
+    ("conductor", "a quorum heard and no more", "        others.map(move |sender|", "        others.take(self.lit.len() / 2 + 1).map(move |sender|"),
+    ("conductor", "run on for advance", "Call::Advance { who }", "Call::RunOn { who }"),
+    ("conductor", "notices heard at the end", "ROUNDS.into_iter().flat_map",
+     "ROUNDS.into_iter().chain([Sort::Notice]).flat_map"),
+    ("conductor", "notices heard before each advance", "        hears.chain(advances)",
+     "        let told = |receiver| self.hears(receiver, Sort::Notice).chain([Call::Advance { who: receiver }]);\n"
+     "        hears.chain(advances.take(0)).chain(self.lit.iter().flat_map(move |&receiver| told(receiver)))"),
+    ("conductor", "states and votes of phase 2", "usize::from(sort.has_phases())", "2 * usize::from(sort.has_phases())"),
+    ("conductor", "messages of the slot before", "let (slot, phase) = (self.slot,", "let (slot, phase) = (self.slot.saturating_sub(1),"),
+    ("memories", "only 1 is dark for the conductor", "self.record(*replica).is_some_and(|record| record.crashed == 0)",
+     "self.record(*replica).is_some_and(|record| record.crashed != 1)"),
     # step files
     ("step_file", "a byte more is taken", "REHEARSAL_BYTES: usize = 65_536", "REHEARSAL_BYTES: usize = 65_537"),
     ("step_file", "a byte less is taken", "REHEARSAL_BYTES: usize = 65_536", "REHEARSAL_BYTES: usize = 65_535"),

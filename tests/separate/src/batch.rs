@@ -48,9 +48,19 @@ impl Case {
                 let result = Pair::of(memories).call(call, &self.numbers)?;
                 (self.does)(&result).then_some(()).ok_or(format!("did {result:?}"))
             }
+            Work::Steps(calls) => self.check_steps(calls),
             Work::Play { file } => compare_play(&self.numbers, file, REPORT, memories),
             Work::FillStrip { .. } | Work::Crash { .. } => self.check_small(),
         }
+    }
+
+    /// Both sides must accept every step.
+    fn check_steps(&self, calls: &[Call]) -> Result<(), Difference> {
+        let mut pair = Pair::of(self.memories.clone());
+        for call in calls {
+            pair.call(call, &self.numbers)?.map_err(|refusal| format!("{call:?} got {refusal:?}"))?;
+        }
+        Ok(())
     }
 
     /// The calls that are not lent the memories; both sides must accept them.
@@ -75,7 +85,7 @@ impl Case {
     /// So many that the clock's steps do not show, so few that the cells in use stay in the first cache.
     fn copies(&self) -> usize {
         match self.work {
-            Work::Play { .. } | Work::Call(Call::Open { .. }) => 1,
+            Work::Play { .. } | Work::Call(Call::Open { .. } | Call::Conduct) | Work::Steps(_) => 1,
             Work::Crash { .. } => 128,
             _ => 16,
         }
@@ -95,6 +105,9 @@ fn make_library(work: &Work, numbers: &Numbers, lent: &mut Lent) -> usize {
     let Lent { memories, record, report } = lent;
     match work {
         Work::Call(call) => black_box(&library::make(call, numbers, memories)).refusal,
+        Work::Steps(calls) => {
+            calls.iter().map(|call| black_box(&library::make(call, numbers, memories)).refusal).sum()
+        }
         Work::FillStrip { start } => {
             library::fill_strip(numbers.slots, numbers.phases, *start, &mut memories.strip)
         }
@@ -107,6 +120,9 @@ fn make_separate(work: &Work, numbers: &Numbers, lent: &mut Lent) -> usize {
     let Lent { memories, record, .. } = lent;
     match work {
         Work::Call(call) => refusal(black_box(&call.make(numbers, memories))),
+        Work::Steps(calls) => {
+            calls.iter().map(|call| refusal(black_box(&call.make(numbers, memories)))).sum()
+        }
         Work::FillStrip { start } => {
             refusal(&coin::fill_strip(numbers.slots, numbers.phases, *start, &mut memories.strip))
         }

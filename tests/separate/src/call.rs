@@ -1,6 +1,7 @@
 //! A call with its arguments, as a value: a record of a step file counts as one, and the comparison programs make the
 //! same one of both implementations.
 
+use crate::conductor::{self, Conducted};
 use crate::memories::Memories;
 use crate::numbers::Numbers;
 use crate::refusal::Refusal;
@@ -16,6 +17,7 @@ pub enum Call {
     Advance { who: usize },
     Crash { who: usize },
     RunOn { who: usize },
+    Conduct,
 }
 
 /// What an accepted call did.
@@ -29,6 +31,7 @@ pub enum Done {
     Advanced(Advanced),
     Crashed,
     RanOn(Ran),
+    Conducted(Conducted),
 }
 
 /// What crosses the boundary: the refusal (0: accepted) and the values, 0 where the call has none.
@@ -37,6 +40,7 @@ pub struct Answer {
     pub refusal: usize,
     pub numbers: Numbers,
     pub advances: usize,
+    pub conducted: Conducted,
 }
 
 impl Call {
@@ -50,6 +54,7 @@ impl Call {
             Call::Advance { .. } => "advance",
             Call::Crash { .. } => "crash",
             Call::RunOn { .. } => "run on",
+            Call::Conduct => "conduct",
         }
     }
 
@@ -66,6 +71,7 @@ impl Call {
             Call::Advance { who } => rules::advance(numbers, who, memories).map(Done::Advanced),
             Call::Crash { who } => crash_in(numbers, who, memories).map(|()| Done::Crashed),
             Call::RunOn { who } => rules::run_on(numbers, who, memories).map(Done::RanOn),
+            Call::Conduct => conductor::conduct(numbers, memories).map(Done::Conducted),
         }
     }
 }
@@ -89,6 +95,7 @@ impl From<&Result<Done, Refusal>> for Answer {
             Err(refusal) => Answer { refusal: refusal.number(), ..Answer::default() },
             Ok(Done::Opened(numbers)) => Answer { numbers, ..Answer::default() },
             Ok(Done::RanOn(ran)) => Answer { advances: ran.advances, ..Answer::default() },
+            Ok(Done::Conducted(conducted)) => Answer { conducted, ..Answer::default() },
             Ok(_) => Answer::default(),
         }
     }

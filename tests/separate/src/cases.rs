@@ -1,17 +1,20 @@
 //! What the benchmark measures: each call on the memories of a scripted run.
 
 use crate::call::{Call, Done};
+use crate::conductor::{Conducted, Plan};
 use crate::memories::{Memories, FIND, IDLE, ONE, STATE, ZERO};
-use crate::numbers::{Numbers, Sort};
+use crate::numbers::{Numbers, Sort, ROUNDS};
 use crate::refusal::Refusal;
 use crate::rules::{Advanced, Ran, Stop, Submitted};
-use crate::script::{order, Fill, Script, ROUNDS};
+use crate::script::{order, Fill, Script};
 
 pub enum Work {
     FillStrip {
         start: usize,
     },
     Call(Call),
+    /// One after the other, all accepted.
+    Steps(Vec<Call>),
     /// Lent its one record.
     Crash {
         who: usize,
@@ -65,7 +68,7 @@ const fn kind(
 }
 
 /// The refused submit shows what a step costs before its own rule: the boundary and refusals 3, 2, 4, 5.
-pub static KINDS: [Kind; 22] = [
+pub static KINDS: [Kind; 24] = [
     kind("fill-strip", "fill_strip", fill_strip, |_| true),
     kind("open", "open", open, |did| matches!(did, Ok(Done::Opened(_)))),
     kind("submit-blank", "submit, blank tag (refused)", submit_blank, |did| *did == Err(Refusal::BlankTag)),
@@ -102,6 +105,10 @@ pub static KINDS: [Kind; 22] = [
     kind("run-on", "run on, a whole slot", run_on, |did| {
         matches!(did, Ok(Done::RanOn(Ran { advances: 3, stop: Stop::Closed(_) })))
     }),
+    kind("conduct", "conduct, a whole slot", conduct, |did| {
+        matches!(did, Ok(Done::Conducted(Conducted { relays: 1.., .. })))
+    }),
+    kind("conduct-steps", "the same steps, one by one", conduct_steps, |_| true),
     kind("crash", "crash", crash, |_| true),
     kind("play", "play, the step file of such a run", play, |_| true),
 ];
@@ -255,6 +262,24 @@ fn run_on(numbers: &Numbers, fill: Fill) -> (Script, Work) {
         script.hear(0, others.clone(), sort);
     }
     (script, Work::Call(Call::RunOn { who: 0 }))
+}
+
+/// Replica 0 alone holds the oldest order.
+fn held_by_one(numbers: &Numbers, fill: Fill) -> Script {
+    let mut script = Script::filled(numbers, Fill { known: fill.known - 1, ..fill });
+    script.share(1, [0]);
+    script
+}
+
+fn conduct(numbers: &Numbers, fill: Fill) -> (Script, Work) {
+    (held_by_one(numbers, fill), Work::Call(Call::Conduct))
+}
+
+fn conduct_steps(numbers: &Numbers, fill: Fill) -> (Script, Work) {
+    let script = held_by_one(numbers, fill);
+    let plan = Plan::of(numbers, &script.memories).expect("a level rack");
+    let steps = plan.relays().chain(plan.steps()).collect();
+    (script, Work::Steps(steps))
 }
 
 fn crash(numbers: &Numbers, fill: Fill) -> (Script, Work) {

@@ -1,6 +1,6 @@
 //! Memories that no run leaves behind: junk, bits of replicas that are not there, spoiled records, memories that are short.
 
-use crate::memories::{bit, Memories, Record, IDLE, STATE, UNDECIDED, VOTE};
+use crate::memories::{bit, Memories, Record, IDLE, ONE, STATE, UNDECIDED, VOTE, ZERO};
 use crate::numbers::{Message, Numbers, Sort, RECORDS};
 use crate::random::Random;
 
@@ -151,6 +151,75 @@ pub const DAMAGES: [(&str, Damage); 41] = [
     }),
 ];
 
+/// Damages of level racks, which fit their numbers: what the conductor must see, and what it must pass over.
+pub const LEVEL_DAMAGES: [(&str, Damage); 13] = [
+    ("a message of the level slot", |random, numbers, memories| {
+        send_one(random, numbers, memories, level_slot(numbers, memories));
+    }),
+    ("a crashed one's message of the level slot", |random, numbers, memories| {
+        let slot = level_slot(numbers, memories);
+        spoil(random, numbers, memories, |record| Record { crashed: 1, ..record });
+        send_one(random, numbers, memories, slot);
+    }),
+    ("a message of the slot behind", |random, numbers, memories| {
+        send_one(random, numbers, memories, level_slot(numbers, memories) + 1);
+    }),
+    ("marks on the messages of the level slot", |random, numbers, memories| {
+        for message in numbers.messages(level_slot(numbers, memories)) {
+            let first = numbers.heard_cell(message, 0);
+            memories.words[first..][..numbers.n].fill_with(|| random.word() as u16);
+        }
+    }),
+    ("ballots of the level slot that are none", |random, numbers, memories| {
+        for message in numbers.messages(level_slot(numbers, memories)).filter(|sent| sent.sort.has_phases()) {
+            let junk = if message.sort == Sort::State { UNDECIDED } else { 4 };
+            let first = numbers.ballot_cell(message, 0);
+            memories.ballots[first..][..numbers.n].fill_with(|| random.pick(&[0, junk, u8::MAX]));
+        }
+    }),
+    ("one ahead", |random, numbers, memories| {
+        let slot = random.between(level_slot(numbers, memories), numbers.slots) as u16;
+        spoil(random, numbers, memories, |record| Record { round: IDLE, slot, ..record });
+    }),
+    ("a crashed one ahead", |random, numbers, memories| {
+        let slot = random.between(level_slot(numbers, memories), numbers.slots) as u16;
+        spoil(random, numbers, memories, |record| Record { crashed: 1, round: IDLE, slot, ..record });
+    }),
+    ("one behind", |random, numbers, memories| {
+        let slot = level_slot(numbers, memories).saturating_sub(1) as u16;
+        spoil(random, numbers, memories, |record| Record { slot, ..record });
+    }),
+    ("all at the slot count", |_, numbers, memories| {
+        for replica in 0..numbers.n {
+            let record = memories.record(replica).unwrap_or_default();
+            memories.set_record(replica, Record { round: IDLE, slot: numbers.slots as u16, ..record });
+        }
+    }),
+    ("any phase when idle", |random, numbers, memories| {
+        let phase = random.word() as u16;
+        spoil(random, numbers, memories, |record| Record { round: IDLE, phase, ..record });
+    }),
+    ("the conductor's tag in some logs", |random, numbers, memories| {
+        let (lit, slot) = (memories.lit(numbers), level_slot(numbers, memories).max(1));
+        let pending = lit.iter().filter_map(|&who| memories.smallest_pending(numbers, who, slot));
+        let tag = pending.min().unwrap_or(1);
+        for who in lit {
+            memories.set_record(who, Record { slot: slot as u16, ..Record::default() });
+            if random.one_in(3) {
+                memories.orders[numbers.log_cell(who, random.below(slot))] = tag;
+            }
+        }
+    }),
+    ("each tag held by one", |random, numbers, memories| {
+        holders(numbers, memories).fill_with(|| bit(random.below(numbers.n)));
+    }),
+    ("all tags known twice", |random, numbers, memories| {
+        let known = memories.known() / 2;
+        memories.orders.copy_within(..known, known);
+        holders(numbers, memories).fill_with(|| random.word() as u16);
+    }),
+];
+
 /// Memories for a run, filled with junk: of exactly the lengths needed, or longer.
 pub fn lent(random: &mut Random, numbers: &Numbers) -> Memories {
     let mut memories = Memories::of_run(numbers);
@@ -229,6 +298,32 @@ pub fn any_record(random: &mut Random, numbers: &Numbers) -> Record {
 
 fn bits_above(random: &mut Random, numbers: &Numbers) -> u16 {
     random.word() as u16 & (u16::MAX << numbers.n)
+}
+
+/// The slot of the lowest lit replica.
+fn level_slot(numbers: &Numbers, memories: &Memories) -> usize {
+    let lowest = memories.lit(numbers).first().and_then(|&who| memories.record(who));
+    lowest.map_or(0, |record| usize::from(record.slot))
+}
+
+/// Any message of the slot, which now was sent by any replica.
+fn send_one(random: &mut Random, numbers: &Numbers, memories: &mut Memories, slot: usize) {
+    let messages: Vec<Message> = numbers.messages(slot).collect();
+    if messages.is_empty() {
+        return;
+    }
+    let (message, sender) = (random.pick(&messages), random.below(numbers.n));
+    match message.sort {
+        Sort::Proposal => memories.orders[numbers.proposal_cell(slot, sender)] = 1 + random.below(4) as u64,
+        Sort::State => memories.ballots[numbers.ballot_cell(message, sender)] = random.pick(&[ZERO, ONE]),
+        Sort::Vote => {
+            memories.ballots[numbers.ballot_cell(message, sender)] = random.pick(&[ZERO, ONE, UNDECIDED]);
+        }
+        Sort::Notice => {
+            let record = memories.record(sender).unwrap_or_default();
+            memories.set_record(sender, Record { round: IDLE, slot: slot as u16 + 1, ..record });
+        }
+    }
 }
 
 /// Draws some of the cells anew.

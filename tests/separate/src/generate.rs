@@ -6,11 +6,11 @@ use crate::call::Call;
 use crate::coin::PATTERN;
 use crate::memories::{Memories, FIND, IDLE};
 use crate::numbers::{
-    Message, Numbers, Sort, MOST_PHASES, MOST_REPLICAS, MOST_ROOM, MOST_SLOTS, USUAL_PHASES,
+    Message, Numbers, Sort, MOST_PHASES, MOST_REPLICAS, MOST_ROOM, MOST_SLOTS, ROUNDS, USUAL_PHASES,
 };
 use crate::random::Random;
 use crate::rules;
-use crate::script::{order, Script, ROUNDS};
+use crate::script::{order, Script};
 use crate::step_file::{body_length, write_record, REHEARSAL_BYTES};
 
 /// What differs from one session to the next, so that agreement, quarrel, crashes and stragglers all occur.
@@ -171,14 +171,12 @@ fn unheard(
     memories: &Memories,
 ) -> Option<Call> {
     let record = memories.record(receiver)?;
-    let slot = usize::from(record.slot);
-    if !memories.fit(numbers) || slot >= numbers.slots {
+    if !memories.fit(numbers) {
         return None;
     }
-    let ballots = (1..=numbers.phases).flat_map(|phase| [(Sort::State, phase), (Sort::Vote, phase)]);
     let mut calls = Vec::new();
-    for (sort, phase) in ballots.chain([(Sort::Proposal, 0), (Sort::Notice, 0)]) {
-        let message = Message { sort, slot, phase };
+    for message in numbers.messages(usize::from(record.slot)) {
+        let Message { sort, slot, phase } = message;
         let listens = match listening {
             Listening::ToAwaited => message == record.awaited(),
             Listening::ToNotices => sort == Sort::Notice,

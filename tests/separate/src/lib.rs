@@ -1,4 +1,4 @@
-//! Document 01's order log with requests 1 and 2 of document 02, written from the documents and apart from the library, and
+//! Document 01's order log with requests 1 to 3 of document 02, written from the documents and apart from the library, and
 //! what compares the two: by whole step files (the program `sessions`), by direct calls on ordinary and damaged memories
 //! (`calls`), and in time (`bench`).
 
@@ -12,6 +12,8 @@ mod check_points;
 pub mod coin;
 #[cfg(feature = "library")]
 pub mod compare;
+pub mod conducted;
+pub mod conductor;
 pub mod damage;
 pub mod generate;
 #[cfg(feature = "library")]
@@ -21,6 +23,7 @@ pub mod notices;
 pub mod numbers;
 pub mod options;
 pub mod phases;
+pub mod racks;
 pub mod random;
 pub mod refusal;
 pub mod rules;

@@ -1,6 +1,7 @@
 //! The library's calls, as its C header declares them, and safe wrappers over our own memories.
 
 use crate::call::{Answer, Call};
+use crate::conductor;
 use crate::memories::{Memories, Record};
 use crate::numbers::Numbers;
 use crate::refusal::Refusal;
@@ -31,6 +32,13 @@ struct Opened {
 struct Ran {
     refusal: usize,
     advances: usize,
+}
+
+#[repr(C)]
+struct Conducted {
+    refusal: usize,
+    steps: usize,
+    relays: usize,
 }
 
 /// The answer of a play: the bytes of the report that stand in the buffer, whether a run was opened, its numbers.
@@ -67,6 +75,7 @@ lent! {
     ) -> usize;
     fn rushhopper_advance(numbers: Numbers, who: Replica; *const u8) -> usize;
     fn rushhopper_run_on(numbers: Numbers, who: Replica; *const u8) -> Ran;
+    fn rushhopper_conduct(numbers: Numbers; *const u8) -> Conducted;
     fn rushhopper_play(
         most: Numbers, file: *const u8, file_length: usize, report: *mut u8, report_length: usize; *mut u8
     ) -> Played;
@@ -115,6 +124,7 @@ pub fn make(call: &Call, numbers: &Numbers, memories: &mut Memories) -> Answer {
     let refusal = match *call {
         Call::Open { plan, start } => return open(plan, start, memories),
         Call::RunOn { who } => return run_on(numbers, who, memories),
+        Call::Conduct => return conduct(numbers, memories),
         Call::Submit { who, tag } => {
             lend!(rushhopper_submit(numbers, Replica { number: who }, tag), memories, as_ptr)
         }
@@ -137,12 +147,17 @@ pub fn make(call: &Call, numbers: &Numbers, memories: &mut Memories) -> Answer {
 
 fn open(plan: Numbers, start: usize, memories: &mut Memories) -> Answer {
     let opened = lend!(rushhopper_open(plan, start), memories, as_mut_ptr);
-    Answer { refusal: opened.refusal, numbers: opened.numbers, advances: 0 }
+    Answer { refusal: opened.refusal, numbers: opened.numbers, ..Answer::default() }
 }
 
 fn run_on(numbers: Numbers, who: usize, memories: &mut Memories) -> Answer {
     let ran = lend!(rushhopper_run_on(numbers, Replica { number: who }), memories, as_ptr);
     Answer { refusal: ran.refusal, advances: ran.advances, ..Answer::default() }
+}
+
+fn conduct(numbers: Numbers, memories: &mut Memories) -> Answer {
+    let Conducted { refusal, steps, relays } = lend!(rushhopper_conduct(numbers), memories, as_ptr);
+    Answer { refusal, conducted: conductor::Conducted { steps, relays }, ..Answer::default() }
 }
 
 /// As the header's `rushhopper_crash_in`, and what becomes of the record goes back also after a refusal.

@@ -122,6 +122,12 @@ impl Memories {
         self.records().get(replica).map(|&words| Record::from(words))
     }
 
+    /// Those of the run's replicas that have not crashed.
+    pub fn lit(&self, numbers: &Numbers) -> Vec<usize> {
+        let runs = |replica: &usize| self.record(*replica).is_some_and(|record| record.crashed == 0);
+        (0..numbers.n).filter(runs).collect()
+    }
+
     pub fn set_record(&mut self, replica: usize, record: Record) {
         let words = [record.crashed, record.round, record.slot, record.phase];
         self.words[RECORDS + 4 * replica..][..4].copy_from_slice(&words);

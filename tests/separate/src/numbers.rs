@@ -46,6 +46,9 @@ pub enum Sort {
     Notice,
 }
 
+/// What the rounds of a slot that closes in phase 1 wait for.
+pub const ROUNDS: [Sort; 3] = [Sort::Proposal, Sort::State, Sort::Vote];
+
 /// What a message is about; with its sender it is a single one. A proposal's and a notice's phase is 0.
 #[derive(Clone, Copy, PartialEq, Eq)]
 pub struct Message {
@@ -132,6 +135,14 @@ impl Numbers {
     pub fn coin_cell(&self, slot: usize, phase: usize) -> usize {
         slot * self.phases + phase - 1
     }
+
+    /// Every message of a slot; behind the last slot there is none.
+    pub fn messages(&self, slot: usize) -> impl Iterator<Item = Message> {
+        let Numbers { slots, phases, .. } = *self;
+        let ballots = (1..=phases).flat_map(|phase| [(Sort::State, phase), (Sort::Vote, phase)]);
+        let kinds = ballots.chain([(Sort::Proposal, 0), (Sort::Notice, 0)]);
+        kinds.filter(move |_| slot < slots).map(move |(sort, phase)| Message { sort, slot, phase })
+    }
 }
 
 impl Sort {
@@ -190,5 +201,11 @@ mod tests {
         assert_eq!((NUMBERS.proposal_cell(0, 0), NUMBERS.proposal_cell(1, 2)), (5, 10));
         assert_eq!((NUMBERS.log_cell(0, 0), NUMBERS.log_cell(2, 1)), (11, 16));
         assert_eq!((NUMBERS.coin_cell(0, 1), NUMBERS.coin_cell(1, 4)), (0, 7));
+    }
+
+    /// Four states, four votes, a proposal and a notice.
+    #[test]
+    fn messages_of_a_slot() {
+        assert_eq!([0, 1, 2, 3].map(|slot| NUMBERS.messages(slot).count()), [10, 10, 0, 0]);
     }
 }

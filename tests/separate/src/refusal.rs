@@ -1,4 +1,4 @@
-//! The refusals of document 01, in the order of its table.
+//! The refusals of document 01, in the order of its table, and behind them those of document 02.
 
 /// "A refusal returns its number and changes nothing at all."
 #[derive(Clone, Copy, Debug, PartialEq, Eq)]
@@ -24,6 +24,8 @@ pub enum Refusal {
     UnknownKind,
     CutRecord,
     OutOfPlace,
+    NotLevel,
+    TooFewLit,
 }
 
 impl Refusal {

@@ -1,4 +1,5 @@
-//! The calls of document 01 over lent memories, with requests 1 and 2 of document 02. A refused call changes nothing.
+//! The calls of document 01 over lent memories, with requests 1 and 2 of document 02; `conductor` has request 3's.
+//! A refused call changes nothing.
 
 use crate::coin::{self, PATTERN};
 use crate::memories::{bit, Memories, Record, EXCHANGE, FIND, IDLE, ONE, STATE, UNDECIDED, VOTE, ZERO};
@@ -69,14 +70,20 @@ pub fn planned(plan: &Numbers, start: usize) -> Result<Numbers, Refusal> {
     }
 }
 
-/// "Steps: 3, 2, 4, 5". The first of the replicas named is the acting one; its record is the answer.
-fn admit(numbers: &Numbers, named: &[usize], memories: &Memories) -> Result<Record, Refusal> {
+/// "3, 2": what is asked before any rule, of a call that names no replica too.
+pub fn admit_rack(numbers: &Numbers, memories: &Memories) -> Result<(), Refusal> {
     if !numbers.within_limits() || memories.are_spoiled(numbers) {
         return Err(Refusal::SpoiledRecord);
     }
     if !memories.fit(numbers) {
         return Err(Refusal::ShortTable);
     }
+    Ok(())
+}
+
+/// "Steps: 3, 2, 4, 5". The first of the replicas named is the acting one; its record is the answer.
+fn admit(numbers: &Numbers, named: &[usize], memories: &Memories) -> Result<Record, Refusal> {
+    admit_rack(numbers, memories)?;
     if named.iter().any(|&replica| replica >= numbers.n) {
         return Err(Refusal::NoSuchBench);
     }

@@ -2,13 +2,10 @@
 
 use crate::call::Call;
 use crate::memories::{Memories, EXCHANGE, FIND, STATE, VOTE};
-use crate::numbers::{Numbers, Sort};
+use crate::numbers::{Numbers, Sort, ROUNDS};
 use crate::rules;
 use crate::step_file::write_record;
 use std::ops::Range;
-
-/// What the rounds of a slot that closes in phase 1 wait for.
-pub const ROUNDS: [Sort; 3] = [Sort::Proposal, Sort::State, Sort::Vote];
 
 /// How far a run has come when a call is measured.
 #[derive(Clone, Copy, Debug, PartialEq, Eq)]
@@ -77,6 +74,10 @@ impl Script {
         file
     }
 
+    pub fn lit(&self) -> Vec<usize> {
+        self.memories.lit(&self.numbers)
+    }
+
     pub fn slot(&self, who: usize) -> usize {
         self.memories.record(who).map_or(0, |record| usize::from(record.slot))
     }
@@ -100,8 +101,20 @@ impl Script {
         (0..self.numbers.n).for_each(|who| self.share(1 + who as u64, [who]));
     }
 
-    pub fn begin(&mut self, replicas: Range<usize>) {
-        replicas.for_each(|who| self.step(Call::Begin { who }));
+    pub fn begin(&mut self, replicas: impl IntoIterator<Item = usize>) {
+        replicas.into_iter().for_each(|who| self.step(Call::Begin { who }));
+    }
+
+    pub fn crash(&mut self, replicas: impl IntoIterator<Item = usize>) {
+        replicas.into_iter().for_each(|who| self.step(Call::Crash { who }));
+    }
+
+    pub fn run_on(&mut self, replicas: impl IntoIterator<Item = usize>) {
+        replicas.into_iter().for_each(|who| self.step(Call::RunOn { who }));
+    }
+
+    pub fn conduct(&mut self) {
+        self.step(Call::Conduct);
     }
 
     pub fn advance(&mut self, replicas: impl IntoIterator<Item = usize>) {
@@ -132,9 +145,10 @@ impl Script {
     }
 
     /// For each of the sorts, these replicas hear each other and then advance.
-    pub fn go_on(&mut self, replicas: Range<usize>, sorts: &[Sort]) {
+    pub fn go_on(&mut self, replicas: impl IntoIterator<Item = usize> + Clone, sorts: &[Sort]) {
         for &sort in sorts {
-            replicas.clone().for_each(|receiver| self.hear(receiver, replicas.clone(), sort));
+            let receivers = replicas.clone().into_iter();
+            receivers.for_each(|receiver| self.hear(receiver, replicas.clone(), sort));
             self.advance(replicas.clone());
         }
     }

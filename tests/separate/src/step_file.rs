@@ -179,5 +179,6 @@ pub fn write_record(file: &mut Vec<u8>, call: &Call) {
         Call::Advance { who } => file.extend([5, who as u8]),
         Call::Crash { who } => file.extend([6, who as u8]),
         Call::RunOn { who } => file.extend([7, who as u8]),
+        Call::Conduct => unreachable!("no kind of record is a conductor's call"),
     }
 }

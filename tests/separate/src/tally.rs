@@ -108,6 +108,8 @@ impl Tally {
             }
             Done::Crashed => self.note("crashed"),
             Done::RanOn(ran) => self.note_run_on(ran),
+            // told by the memories before it, in `conducted`
+            Done::Conducted(_) => {}
         }
     }
 

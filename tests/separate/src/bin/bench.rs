@@ -16,7 +16,7 @@ const NEARLY_EMPTY: Fill = Fill { known: 1, closed: 0 };
 /// Of the step file that is played.
 const PLAYED: Fill = Fill { known: 16, closed: 8 };
 /// The calls whose cost depends on the known tags and closed slots.
-const BY_FILL: [&str; 4] = ["submit-new", "submit-known", "relay", "begin"];
+const BY_FILL: [&str; 6] = ["submit-new", "submit-known", "relay", "begin", "conduct", "conduct-steps"];
 /// The rack in which known tags and slots grow.
 const GROWING: usize = 5;
 
@@ -41,7 +41,7 @@ const fn grow(
 }
 
 /// A submit of a new tag needs a room that is not full.
-static SERIES: [Series; 28] = [
+static SERIES: [Series; 31] = [
     grow("hear-proposal", "slots", &[1, 8, 64], last_slot),
     grow("hear-state", "slots", &[1, 8, 64], last_slot),
     grow("hear-vote", "slots", &[1, 8, 64], last_slot),
@@ -69,6 +69,9 @@ static SERIES: [Series; 28] = [
     grow("notice-idle", "n", &[3, 5, 9, 15], rack),
     grow("notice-state", "n", &[3, 5, 9, 15], rack),
     grow("run-on", "n", &[3, 5, 9, 15], rack),
+    grow("conduct", "n", &[3, 5, 9, 15], rack),
+    grow("conduct-steps", "n", &[3, 5, 9, 15], rack),
+    grow("conduct", "known tags", &[16, 64, 256], known),
     grow("play", "closed slots (64 known tags)", &[1, 8, 64], closed_of_64),
 ];
 

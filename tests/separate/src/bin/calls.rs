@@ -6,7 +6,9 @@ use separate::busy::{busy_script, settle};
 use separate::call::{Answer, Call, Done};
 use separate::coin::{self, COINS, PATTERN};
 use separate::compare::{compare_play, Difference, Pair};
-use separate::damage::{any_record, lent, DAMAGES};
+use separate::conducted;
+use separate::conductor::Conducted;
+use separate::damage::{any_record, lent, Damage, DAMAGES, LEVEL_DAMAGES};
 use separate::generate::{
     broken_session, left_behind_session, likely_call, limit_plan, session, small_plan, start, strange_call,
     strange_numbers, wild_session, Habits,
@@ -19,14 +21,16 @@ use separate::numbers::{
 };
 use separate::options::number;
 use separate::phases;
+use separate::racks::{drawn_rack, LEADS};
 use separate::random::Random;
 use separate::refusal::Refusal;
 use separate::rules::{self, Advanced};
+use separate::script::{order, Script};
 use separate::tally::{Tally, EVENTS};
 use std::process::ExitCode;
 
 /// Which refusals each call can give; 0 is accepted.
-const REFUSALS: [(&str, &[usize]); 9] = [
+const REFUSALS: [(&str, &[usize]); 10] = [
     ("strip", &[0, 1, 2]),
     ("open", &[0, 1, 2]),
     ("submit", &[0, 2, 3, 4, 5, 6, 7, 8]),
@@ -36,10 +40,14 @@ const REFUSALS: [(&str, &[usize]); 9] = [
     ("advance", &[0, 2, 3, 4, 5, 13, 14, 15]),
     ("run on", &[0, 2, 3, 4, 5, 13, 14, 15]),
     ("crash", &[0, 2, 3, 4, 5]),
+    ("conduct", &[0, 2, 3, 11, 12, 22, 23]),
 ];
 
 /// Events of damaged memories only: an own message counts as heard, and its mark is missing.
 const UNMARKED: [&str; 2] = ["advanced without its own mark", "refused 18 without its own mark"];
+
+/// Events of the conductor that a single call's memories do not tell.
+const CONDUCTED: [&str; 2] = ["conducted in a run, by 3L² + L steps", "conducted three slots in a row"];
 
 /// Most runs are small, so that they end; some have the usual phases or masks of 15 bits; a few are the largest.
 const SMALL: Numbers = Numbers { n: 5, f: 2, slots: 3, phases: 4, room: 6 };
@@ -53,7 +61,8 @@ fn main() -> ExitCode {
         .and_then(|()| compare_further())
         .and_then(|()| compare_left_behind())
         .and_then(|()| compare_phase_limits())
-        .and_then(|()| compare_busy_days(&mut tally));
+        .and_then(|()| compare_busy_days(&mut tally))
+        .and_then(|()| compare_conductor());
     if let Err(difference) = first {
         println!("difference: {difference}");
         return ExitCode::FAILURE;
@@ -77,11 +86,14 @@ fn expected() -> impl Iterator<Item = String> {
     let refusals = REFUSALS.iter().flat_map(|(call, refusals)| {
         refusals.iter().map(|&refusal| answer_name(call, refusal)).collect::<Vec<_>>()
     });
-    let damages = DAMAGES.iter().map(|(name, _)| format!("damage: {name}"));
+    let damages = DAMAGES.iter().chain(&LEVEL_DAMAGES).map(|(name, _)| format!("damage: {name}"));
+    let racks = LEADS.iter().map(|(name, _)| format!("rack: {name}"));
     let others = ["other numbers than the run's", "played a step file"];
     let noticed = notices::EVENTS.into_iter().chain(notices::EVENTS_OF_DAMAGE);
-    let events = EVENTS.into_iter().chain(noticed).chain(phases::EVENTS).chain(others).chain(UNMARKED);
-    refusals.chain(events.map(str::to_string)).chain(damages)
+    let conducted = conducted::EVENTS.into_iter().chain(conducted::EVENTS_OF_DAMAGE).chain(CONDUCTED);
+    let events = EVENTS.into_iter().chain(noticed).chain(phases::EVENTS).chain(conducted);
+    let events = events.chain(others).chain(UNMARKED).map(str::to_string);
+    refusals.chain(events).chain(damages).chain(racks)
 }
 
 fn answer_name(call: &str, refusal: usize) -> String {
@@ -198,6 +210,28 @@ fn compare_busy_days(tally: &mut Tally) -> Result<(), Difference> {
     Ok(())
 }
 
+/// Request 3's counts, asked of the library: three slots with orders that the highest lit replica alone holds, of
+/// which the smallest is to come first. All n are lit, a quorum of them, or some number between.
+fn compare_conductor() -> Result<(), Difference> {
+    let racks = [(1, 0, 1, 4), (3, 1, 3, 30), (3, 1, 2, 14), (5, 2, 5, 80), (5, 2, 4, 52), (15, 7, 15, 690)];
+    for (n, f, lit, steps) in racks {
+        let mut script = Script::open(&Numbers { n, f, slots: 3, phases: 1, room: 3 });
+        script.crash(lit..n);
+        for second in [3, 1, 2] {
+            script.share(order(second), [lit - 1]);
+        }
+        let numbers = script.numbers;
+        let answers = [(); 4].map(|()| library::make(&Call::Conduct, &numbers, &mut script.memories));
+        let conducted = Answer { conducted: Conducted { steps, relays: lit - 1 }, ..Answer::default() };
+        let full = Answer { refusal: Refusal::LogFull.number(), ..Answer::default() };
+        let log = script.memories.log(&numbers, 0, 3);
+        if answers != [conducted, conducted, conducted, full] || log != [1, 2, 3].map(order) {
+            return Err(format!("conductor, {lit} of {n} lit: {answers:?}, {log:?}"));
+        }
+    }
+    Ok(())
+}
+
 /// The message of the caller's own that a call rests on: the one that it would hear, or one that its advance counts.
 fn own_message(call: &Call, memories: &Memories) -> Option<(usize, Message)> {
     match *call {
@@ -221,6 +255,11 @@ struct Trial<'a> {
     pair: Pair,
     /// The memories before a damage or a call with other numbers, and the calls left until they come back.
     whole: Option<(Memories, usize)>,
+    /// Whether no damage was kept since the opening: then the whole memories are those of a run.
+    is_run: bool,
+    /// The odds of racks that are made for the conductor.
+    rack_odds: usize,
+    conducted_in_a_row: usize,
 }
 
 impl Trial<'_> {
@@ -236,7 +275,20 @@ impl Trial<'_> {
         let numbers = rules::planned(&plan, 0).unwrap_or(plan);
         let pair = Pair::of(lent(&mut random, &numbers));
         let habits = Habits::draw(&mut random, plan.n);
-        Trial { random, tally, plan, numbers, refused_in_a_row: 0, habits, pair, whole: None }
+        let rack_odds = if random.one_in(6) { 2 } else { usize::MAX };
+        Trial {
+            random,
+            tally,
+            plan,
+            numbers,
+            refused_in_a_row: 0,
+            habits,
+            pair,
+            whole: None,
+            is_run: false,
+            rack_odds,
+            conducted_in_a_row: 0,
+        }
     }
 
     /// Answers how many calls were made.
@@ -247,8 +299,11 @@ impl Trial<'_> {
         let steps = self.random.pick(&[20, 200, 500]);
         for _ in 0..steps {
             self.mend();
+            if self.whole.is_none() && self.random.one_in(self.rack_odds) {
+                self.conduct_rack()?;
+            }
             if self.random.one_in(24) {
-                self.damage();
+                self.damage(&DAMAGES);
             }
             self.step()?;
         }
@@ -272,7 +327,8 @@ impl Trial<'_> {
                 let call = strange_call(random, &numbers);
                 self.call(&call, &numbers)
             }
-            draw if draw == 28 || stuck => {
+            28..32 => self.call(&Call::Conduct, &numbers),
+            draw if draw == 32 || stuck => {
                 let call = opening(random, &self.plan);
                 self.call(&call, &numbers)
             }
@@ -283,7 +339,26 @@ impl Trial<'_> {
         }
     }
 
+    /// A new run that is made for the conductor, damaged half the time, and conducted.
+    fn conduct_rack(&mut self) -> Result<(), Difference> {
+        let (leads, script) = drawn_rack(&mut self.random, &self.plan);
+        leads.iter().for_each(|name| self.tally.note(&format!("rack: {name}")));
+        self.pair = Pair::of(lent(&mut self.random, &script.numbers));
+        script.calls.iter().try_for_each(|call| self.call(call, &script.numbers))?;
+        match self.random.below(8) {
+            0 => self.damage(&DAMAGES),
+            1..4 => self.damage(&LEVEL_DAMAGES),
+            _ => {}
+        }
+        let conducts = self.random.between(1, 4);
+        (0..conducts).try_for_each(|_| self.call(&Call::Conduct, &script.numbers))
+    }
+
     fn call(&mut self, call: &Call, numbers: &Numbers) -> Result<(), Difference> {
+        if *call == Call::Conduct {
+            return self.conduct(numbers);
+        }
+        self.conducted_in_a_row = 0;
         let own = own_message(call, &self.pair.ours);
         let result = self.pair.call(call, numbers)?;
         self.note_answer(call.name(), result.map(|_| ()));
@@ -297,7 +372,29 @@ impl Trial<'_> {
             if let Done::Opened(numbers) = done {
                 self.numbers = numbers;
                 self.whole = None;
+                self.is_run = true;
             }
+        }
+        Ok(())
+    }
+
+    /// In a run the conductor's claim must hold.
+    fn conduct(&mut self, numbers: &Numbers) -> Result<(), Difference> {
+        let before = self.pair.ours.clone();
+        let result = self.pair.call(&Call::Conduct, numbers)?;
+        self.note_answer(Call::Conduct.name(), result.map(|_| ()));
+        let events = conducted::met(numbers, &result, &before, &self.pair.ours);
+        events.into_iter().for_each(|event| self.tally.note(event));
+        let Ok(Done::Conducted(counts)) = result else { return Ok(()) };
+        self.refused_in_a_row = 0;
+        self.conducted_in_a_row += 1;
+        if self.conducted_in_a_row == 3 {
+            self.tally.note(CONDUCTED[1]);
+        }
+        if self.is_run && self.whole.is_none() {
+            let claim = conducted::claim(numbers, &before, &self.pair.ours, counts);
+            claim.map_err(|wrong| format!("the conductor's claim: {wrong}"))?;
+            self.tally.note(CONDUCTED[0]);
         }
         Ok(())
     }
@@ -328,8 +425,8 @@ impl Trial<'_> {
 
     /// A damage is used for a few calls; then the whole memories come back, so that the run can go on. So they do after one
     /// call with other numbers, which move the sections, so that it may write across the run.
-    fn damage(&mut self) {
-        let (name, damage) = self.random.pick(&DAMAGES);
+    fn damage(&mut self, kinds: &[(&'static str, Damage)]) {
+        let (name, damage) = self.random.pick(kinds);
         self.tally.note(&format!("damage: {name}"));
         let mut memories = self.pair.ours.clone();
         let calls = self.random.between(1, 12);
@@ -344,7 +441,9 @@ impl Trial<'_> {
         let usable = self.pair.ours.fit(&self.numbers) && !self.pair.ours.are_spoiled(&self.numbers);
         if left > 0 {
             self.whole = Some((whole, left - 1));
-        } else if !(usable && self.random.one_in(3)) {
+        } else if usable && self.random.one_in(3) {
+            self.is_run = false;
+        } else {
             self.pair = Pair::of(whole);
         }
     }
