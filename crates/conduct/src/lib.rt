@@ -28,7 +28,7 @@ ghost use Rattle.tables.specs.View.{view};
 ghost use Rattle.tables.specs.Sound.{Sound};
 ghost use Rattle.tables.specs.Calls.{tables, tables-barred, on-tables, conducted};
 ghost use Rattle.tables.specs.Lent.{moments};
-ghost use Rattle.rounds.specs.Made.{Ready};
+ghost use Rattle.rounds.specs.Made.{Passable};
 ghost use Rattle.conduct.specs.Seen.{Seen, tag-refusals};
 
 // 3 and 2, as every step asks them. No later step of the call meets them.
@@ -61,8 +61,7 @@ fn carry_out(
     ballots: &mut [u8],
     strip: &[u8],
 ) -> Answer
-    requires { ⌜ (Ready numbers running (tables (now words) (now orders) (now ballots))) × (strip-short numbers (now strip) ≡ false)
-        × (slot < numbers .slots) ⌝ }
+    requires { ⌜ Passable numbers running slot (now strip) (tables (now words) (now orders) (now ballots)) ⌝ }
     ensures { λ r.
         let t = moments words orders ballots in
         let relays = for-each (numbers .n) (has-bit lacking) (does (Relay tag)) in

@@ -14,6 +14,7 @@ use Rattle.model.specs.Conductor.{is-running, running-count, slot-among, common
 use Rattle.model.proofs.Cases.{clash, either, and-true, and-both, and-none, or-false, or-none, between-true, same-round-true}
 use Rattle.model.proofs.Counting.{any-false, any-nowhere, any-place, any-here}
 use Rattle.model.proofs.FirstTag.{first-of-is, first-of-leads}
+use Rattle.safety.specs.Below.{fails}
 use Rattle.tables.specs.Layout.{Tables}
 use Rattle.tables.specs.View.{view}
 use Rattle.tables.specs.Addresses.{Within, guarded-sent}
@@ -28,11 +29,6 @@ pub record Level (N : Numbers) (r : Rack) : Type 0 where
   pub idle : (c : ℕ) → c < N .n → is-running N r c ≡ true → r .at c .round ≡ Idle
   pub one-slot : (c d : ℕ) → c < N .n → d < N .n → is-running N r c ≡ true → is-running N r d ≡ true → r .at c .closed ≡ r .at d .closed
   pub silent : (c : ℕ) → c < N .n → is-running N r c ≡ true → (so : Sort) (p d : ℕ) → r .sent so (r .at c .closed) p d ≡ Unsent
-
--- of two tests that do not both pass, the one passes and the other does not
-other-fails : (a b : Bool) → a ≡ true → (a && b) ≡ false → b ≡ false
-other-fails true b e h = h
-other-fails false b e h = clash e
 
 -- ---- the slot is that of a running replica
 
@@ -100,7 +96,7 @@ module _ (N : Numbers) (t : Tables) where
     even : level N r s ≡ true → (c : ℕ) → c < n → is-running N r c ≡ true → (r .at c .round ≡ Idle) × (r .at c .closed ≡ s)
     even e c l on =
         let none = any-false n (uneven N r s) (not-true _ (and-true (not (any n (uneven N r s))) _ e .0)) c l in
-        let (a, b) = and-true (same-round (r .at c .round) Idle) _ (not-false _ (other-fails (is-running N r c) _ on none)) in
+        let (a, b) = and-true (same-round (r .at c .round) Idle) _ (not-false _ (fails (is-running N r c) _ on none)) in
         (same-round-true _ Idle a, eqb-true _ _ b)
 
     is-level : level N r s ≡ true → Level N r

@@ -24,7 +24,7 @@ use Rattle.model.proofs.Cases.{or-none, sort-back}
 use Rattle.tables.specs.Layout.{Tables, with-bit, heard-cell}
 use Rattle.tables.specs.View.{counts-for, sent-words}
 use Rattle.tables.specs.Bounds.{Bounds}
-use Rattle.tables.specs.Addresses.{Within, state-in, as-vote}
+use Rattle.tables.specs.Addresses.{state-in, as-vote}
 use Rattle.tables.specs.Calls.{tables, judge}
 use Rattle.messages.proofs.HearLaws.{Heard, not-sent, already, received, sort-heard}
 use Rattle.acts.specs.Admitted.{Admitted}
@@ -59,9 +59,6 @@ module _ (N : Numbers) (ws os bs : List ℕ) (c d : ℕ) (so : Sort) (s p : ℕ)
 
   abbrev m : Message
   m = record { sort = sort-number so; slot = record { 0 = s }; phase = record { 0 = p }; sender = numbered d }
-
-  pub of-the-run : Within N so s p d
-  of-the-run = record { sender = there; slot = range .0; phase = range .1 }
 
   admitted : Admitted N c d (N .slots * N .phases) T
   admitted = record { fine = l .fine; coins = le-refl _; who = l .who; named = there; running = l .running }

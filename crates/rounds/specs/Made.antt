@@ -9,7 +9,7 @@ use Rattle.model.specs.declared.Step.{Step}
 use Rattle.model.specs.declared.Answer.{Answer}
 use Rattle.model.specs.declared.Answer.the-variants.{Refused, Done, Ran, Opened, Conducted}
 use Rattle.model.specs.Limits.{most-replicas}
-use Rattle.model.specs.Rules.{phase-in}
+use Rattle.model.specs.Rules.{phase-in, strip-short}
 use Rattle.model.specs.Scripts.{after-all, accepted-of}
 use Rattle.tables.specs.Layout.{Tables, has-bit, record-at}
 use Rattle.tables.specs.Sound.{Sound}
@@ -38,6 +38,10 @@ pub record Ready (N : Numbers) (mask : ℕ) (t : Tables) : Type 0 where
 -- a sort, slot and phase of the run
 abbrev pub InRange : Numbers → Sort → ℕ → ℕ → Type 0
 InRange N so s p = (s < N .slots) × (phase-in N so p ≡ true)
+
+-- what a slot asks that is gone through by the replicas of a mask
+abbrev pub Passable : Numbers → ℕ → ℕ → List ℕ → Tables → Type 0
+Passable N mask s strip t = Ready N mask t × (strip-short N strip ≡ false) × (s < N .slots)
 
 -- a round has at most so many steps
 abbrev pub most-round : ℕ

@@ -26,7 +26,7 @@ ghost use Rattle.model.specs.Conductor.{for-each, does, hear, hear-steps, round
 ghost use Rattle.tables.specs.Layout.{mask-bits, has-bit};
 ghost use Rattle.tables.specs.Calls.{tables};
 ghost use Rattle.tables.specs.Lent.{moments};
-ghost use Rattle.rounds.specs.Made.{accepts, Made, Listening, Ready, InRange, most-round};
+ghost use Rattle.rounds.specs.Made.{accepts, Made, Listening, Ready, InRange, Passable, most-round};
 
 // 1 for a step that was accepted.
 fn counted(answer: Answer) -> usize
@@ -287,8 +287,7 @@ fn make_phase(
     ballots: &mut [u8],
     strip: &[u8],
 ) -> usize
-    requires { ⌜ (Ready numbers running (tables (now words) (now orders) (now ballots))) × (strip-short numbers (now strip) ≡ false)
-        × (slot < numbers .slots) ⌝ }
+    requires { ⌜ Passable numbers running slot (now strip) (tables (now words) (now orders) (now ballots)) ⌝ }
     ensures { λ r.
         let t = moments words orders ballots in
         ⌜ (r ≤ 2 * most-round) × Made numbers (now (strip .entry)) (phase-steps (numbers .n) (has-bit running) slot) (t .entry) (t .exit) r ⌝ }
@@ -328,8 +327,7 @@ fn make_rounds(
     ballots: &mut [u8],
     strip: &[u8],
 ) -> usize
-    requires { ⌜ (Ready numbers running (tables (now words) (now orders) (now ballots))) × (strip-short numbers (now strip) ≡ false)
-        × (slot < numbers .slots) ⌝ }
+    requires { ⌜ Passable numbers running slot (now strip) (tables (now words) (now orders) (now ballots)) ⌝ }
     ensures { λ r.
         let t = moments words orders ballots in
         let steps = round-steps (numbers .n) (has-bit running) slot (sort-number Proposals) 0 ++ phase-steps (numbers .n) (has-bit running) slot in
@@ -360,8 +358,7 @@ pub fn make_slot(
     ballots: &mut [u8],
     strip: &[u8],
 ) -> usize
-    requires { ⌜ (Ready numbers running (tables (now words) (now orders) (now ballots))) × (strip-short numbers (now strip) ≡ false)
-        × (slot < numbers .slots) ⌝ }
+    requires { ⌜ Passable numbers running slot (now strip) (tables (now words) (now orders) (now ballots)) ⌝ }
     ensures { λ r.
         let t = moments words orders ballots in
         ⌜ Made numbers (now (strip .entry)) (slot-steps (numbers .n) (has-bit running) slot) (t .entry) (t .exit) r ⌝ }
