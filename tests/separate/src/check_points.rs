@@ -103,7 +103,7 @@ fn c6_c7_votes() {
 /// C8 speaks of entry 32, so of the coin table: slot 1, phase 1.
 #[test]
 fn c8_coin() {
-    assert_eq!(crate::coin::COINS[32], 0);
+    assert_eq!(crate::coin::pattern()[32], 0);
     assert_eq!(advance_on_votes(3, 1, 1, &[UNDECIDED, UNDECIDED]), Ok(Advanced::NextByCoin(ZERO)));
 }
 

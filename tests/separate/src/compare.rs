@@ -1,6 +1,7 @@
 //! One call or one step file, made of both implementations on equal memories.
 
 use crate::call::{Answer, Call, Done};
+use crate::coin;
 use crate::library;
 use crate::memories::Memories;
 use crate::numbers::Numbers;
@@ -35,6 +36,24 @@ impl Pair {
         }
         Ok(result)
     }
+}
+
+/// Fills a strip with both on equal cells: the library's answer and every cell must be ours, which are left in it.
+pub fn compare_strip(
+    slots: usize,
+    phases: usize,
+    start: usize,
+    strip: &mut [u8],
+) -> Result<Result<(), Refusal>, Difference> {
+    let mut theirs = strip.to_vec();
+    let result = coin::fill_strip(slots, phases, start, strip);
+    let refusal = library::fill_strip(slots, phases, start, &mut theirs);
+    let shown = format_args!("strip of {slots} slots, {phases} phases from {start}");
+    if result.map_or_else(Refusal::number, |()| 0) != refusal {
+        return Err(format!("{shown}: ours {result:?}, library's {refusal}"));
+    }
+    first_cell("strip", strip, &theirs)
+        .map_or(Ok(result), |cell| Err(format!("{shown}, answer {refusal}\n{cell}")))
 }
 
 /// Plays a step file with both on equal memories: the library's answer, report and every cell must be ours. The
@@ -75,13 +94,15 @@ pub fn first_line(ours: &[u8], theirs: &[u8]) -> Difference {
 }
 
 fn first_difference(ours: &Memories, theirs: &Memories) -> Difference {
-    fn cell<T: PartialEq + std::fmt::Debug>(memory: &str, ours: &[T], theirs: &[T]) -> Option<Difference> {
-        let place = ours.iter().zip(theirs).position(|(one, other)| one != other)?;
-        Some(format!("{memory}, cell {place}\nours {:?}\nlibrary's {:?}", ours[place], theirs[place]))
-    }
-    cell("words", &ours.words, &theirs.words)
-        .or_else(|| cell("orders", &ours.orders, &theirs.orders))
-        .or_else(|| cell("ballots", &ours.ballots, &theirs.ballots))
-        .or_else(|| cell("strip", &ours.strip, &theirs.strip))
+    first_cell("words", &ours.words, &theirs.words)
+        .or_else(|| first_cell("orders", &ours.orders, &theirs.orders))
+        .or_else(|| first_cell("ballots", &ours.ballots, &theirs.ballots))
+        .or_else(|| first_cell("strip", &ours.strip, &theirs.strip))
         .unwrap_or_default()
+}
+
+/// The first cell in which two memories of equal length differ.
+fn first_cell<T: PartialEq + std::fmt::Debug>(memory: &str, ours: &[T], theirs: &[T]) -> Option<Difference> {
+    let place = ours.iter().zip(theirs).position(|(one, other)| one != other)?;
+    Some(format!("{memory}, cell {place}\nours {:?}\nlibrary's {:?}", ours[place], theirs[place]))
 }

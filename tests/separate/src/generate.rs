@@ -113,6 +113,31 @@ pub fn start(random: &mut Random) -> usize {
     random.pick(&[0, 1, 510, 511, 65_535, PATTERN / 2, PATTERN / 3, PATTERN / 5])
 }
 
+/// Slots, phases and start of a strip: one of them may be at or beyond its limit. A third of the strips end on the coin
+/// table's last entry, where that can be, half of these in rows of a byte at most.
+pub fn strip_numbers(random: &mut Random) -> (usize, usize, usize) {
+    let (mut slots, mut phases, mut start) =
+        (random.between(1, MOST_SLOTS), random.between(1, MOST_PHASES), random.below(PATTERN));
+    match random.below(6) {
+        0 => slots = random.around(MOST_SLOTS),
+        1 => phases = random.around(MOST_PHASES),
+        2 => start = random.around(PATTERN),
+        3 => (slots, start) = ending_last(slots, phases),
+        4 => {
+            phases = phases.div_ceil(4);
+            (slots, start) = ending_last(slots, phases);
+        }
+        _ => {}
+    }
+    (slots, phases, start)
+}
+
+/// Fewer slots, and the start from which they end on the table's last entry. 16 slots of 32 phases go one further.
+fn ending_last(slots: usize, phases: usize) -> (usize, usize) {
+    let slots = slots.div_ceil(4);
+    (slots, PATTERN.saturating_sub(32 * (slots - 1) + phases))
+}
+
 /// A call that the run accepts, if a few draws find one.
 pub fn likely_call(random: &mut Random, numbers: &Numbers, habits: &Habits, memories: &Memories) -> Call {
     let mut call = drawn_call(random, numbers, habits, memories);
