@@ -183,7 +183,7 @@ fn propose(
     );
 }
 
-// "An idle controller proposes its smallest pending tag and enters the exchange."
+// "An idle controller proposes" its first-ranked pending tag "and enters the exchange."
 pub fn begin(
     numbers: Numbers,
     who: ReplicaId,

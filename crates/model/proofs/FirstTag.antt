@@ -1,28 +1,68 @@
--- The order in which pending tags are proposed, and what it makes of the first of those that pass a test. Of `ahead` only the
--- three laws at the top are used.
-use Prim.Native.Nat.{ℕ}
+-- The order in which pending tags are proposed, and what it makes of the first of those that pass a test. Only the two laws at the
+-- top open `ahead`; behind the next three all goes by its being an order.
+use Prim.Native.Nat.{ℕ, _<_}
 use native.Mathlib.Omega.{arith}
 use native.Mathlib.Decide.{ℕ-discrete}
 use mathlib.Core.Bool.{Bool, true, false, not, _&&_, _||_, true≢false}
 use mathlib.Core.List.{List, [], _∷_}
 use mathlib.Core.Logic.{_⊎_, inl, inr, ⊎-elim, _≢_}
 use mathlib.Core.Path.{_≡_, refl, sym, _∙_, ap, subst}
-use lib.Dec.{eqb}
+use lib.Dec.{ltb, eqb}
 use borrow.Author.Tests.{ltb-true, ltb-false, lt-ltb, le-ltb, eqb-true, eqb-false, eq-eqb, ne-eqb, not-true}
 use Rattle.model.specs.Tests.{if, some, listed}
-use Rattle.model.specs.Rules.{ahead, earlier, first-of}
-use Rattle.model.proofs.Cases.{clash, either, and-true, and-both, or-true, or-false, or-left, or-right, if-ind, some-here, some-there}
+use Rattle.model.specs.Rules.{urgent, ahead, earlier, first-of}
+use Rattle.model.proofs.Cases.{clash, either, alike-or-not, and-true, and-both, or-true, or-false, or-left, or-right, if-ind, some-here, some-there}
 
 -- ---- the order
 
-pub ahead-itself : (x : ℕ) → ahead x x ≡ false
-ahead-itself x = le-ltb x x (omega arith)
+-- "A tag with its highest bit set is urgent and ranks before the rest": of two of which one is urgent, that one is ahead
+unlike-ahead : (x y : ℕ) → urgent x ≢ urgent y → ahead x y ≡ urgent x
+unfolding ahead if
+unlike-ahead x y = go (urgent x) (urgent y) _
+  where
+    go : (u v smaller : Bool) → u ≢ v → (ltb (if u 0 1) (if v 0 1) || (eqb (if u 0 1) (if v 0 1) && smaller)) ≡ u
+    go true true _ ne = absurd (ne refl)
+    go true false _ ne = refl
+    go false true _ ne = refl
+    go false false _ ne = absurd (ne refl)
 
-pub ahead-trans : (x y z : ℕ) → ahead x y ≡ true → ahead y z ≡ true → ahead x z ≡ true
-ahead-trans x y z a b = lt-ltb x z (omega (arith, ltb-true x y a, ltb-true y z b))
+-- "then the smaller number counts"
+pub alike-ahead : (x y : ℕ) → urgent x ≡ urgent y → ahead x y ≡ ltb x y
+unfolding ahead if
+alike-ahead x y same = rw same (go (urgent y))
+  where
+    go : (u : Bool) → (ltb (if u 0 1) (if u 0 1) || (eqb (if u 0 1) (if u 0 1) && ltb x y)) ≡ ltb x y
+    go true = refl
+    go false = refl
+
+pub ahead-itself : (x : ℕ) → ahead x x ≡ false
+ahead-itself x = alike-ahead x x refl ∙ le-ltb x x (omega arith)
 
 pub ahead-apart : (x y : ℕ) → ahead x y ≡ false → ahead y x ≡ false → x ≡ y
-ahead-apart x y a b = omega (arith, ltb-false x y a, ltb-false y x b)
+ahead-apart x y a b = alike-or-not (urgent x) (urgent y)
+    (λ same. omega (arith, ltb-false x y (sym (alike-ahead x y same) ∙ a), ltb-false y x (sym (alike-ahead y x (sym same)) ∙ b)))
+    (λ other. absurd (other (sym (unlike-ahead x y other) ∙ a ∙ sym b ∙ unlike-ahead y x (λ e. other (sym e)))))
+
+-- which of the two made it so
+abbrev pub Ahead : ℕ → ℕ → Type 0
+Ahead x y = ((urgent x ≡ true) × (urgent y ≡ false)) ⊎ ((urgent x ≡ urgent y) × (x < y))
+
+ahead-is : (x y : ℕ) → ahead x y ≡ true → Ahead x y
+ahead-is x y e = alike-or-not (urgent x) (urgent y) (λ same. inr (same, ltb-true x y (sym (alike-ahead x y same) ∙ e)))
+    (λ other. let u = sym (unlike-ahead x y other) ∙ e in inl (u, either (urgent y) (λ v. absurd (other (u ∙ sym v))) (λ v. v)))
+
+pub ahead-so : (x y : ℕ) → Ahead x y → ahead x y ≡ true
+ahead-so x y (inl (u, v)) = unlike-ahead x y (λ same. clash (sym v ∙ sym same ∙ u)) ∙ u
+ahead-so x y (inr (same, l)) = alike-ahead x y same ∙ lt-ltb x y l
+
+pub ahead-trans : (x y z : ℕ) → ahead x y ≡ true → ahead y z ≡ true → ahead x z ≡ true
+ahead-trans x y z a b = ahead-so x z (go (ahead-is x y a) (ahead-is y z b))
+  where
+    go : Ahead x y → Ahead y z → Ahead x z
+    go (inl (u, v)) (inl (w, _)) = clash (sym v ∙ w)
+    go (inl (u, v)) (inr (same, _)) = inl (u, sym same ∙ v)
+    go (inr (same, _)) (inl (v, w)) = inl (same ∙ v, w)
+    go (inr (same, l)) (inr (also, m)) = inr (same ∙ also, omega arith)
 
 -- ---- the first is one of them
 
@@ -56,7 +96,7 @@ abbrev pub Leads : ℕ → ℕ → Type 0
 Leads x y = (x ≢ 0) × (ahead y x ≡ false)
 
 -- what is ahead of z is not behind what is not
-behind : (x y z : ℕ) → ahead y z ≡ false → ahead x z ≡ true → ahead y x ≡ false
+pub behind : (x y z : ℕ) → ahead y z ≡ false → ahead x z ≡ true → ahead y x ≡ false
 behind x y z a b = go (ahead y x) refl
   where
     go : (t : Bool) → ahead y x ≡ t → ahead y x ≡ false
@@ -117,7 +157,7 @@ first-of-none ok [] none = refl
 first-of-none ok (x ∷ xs) none = rw (none x) (first-of-none ok xs none)
 
 -- what does not come ahead of y does not come ahead of what y is not ahead of
-not-ahead : (x y z : ℕ) → ahead z y ≡ false → ahead y x ≡ false → ahead z x ≡ false
+pub not-ahead : (x y z : ℕ) → ahead z y ≡ false → ahead y x ≡ false → ahead z x ≡ false
 not-ahead x y z a b = either (ahead z x) (λ e. clash (sym a ∙ either (ahead x y) (ahead-trans z x y e) (λ f. same e (ahead-apart x y f b)))) (λ e. e)
   where
     same : ahead z x ≡ true → x ≡ y → ahead z y ≡ true

@@ -85,7 +85,7 @@ module _ (N : Numbers) (r : Rack) where
   abbrev pub pending-somewhere : ℕ → Bool
   pending-somewhere x = any n (λ c. is-running c && pending (r .at c) x)
 
-  -- "the smallest tag pending at any lit controller", by the order in which pending tags are proposed; 0 if there is none
+  -- "the smallest tag pending at any lit controller", now "the first-ranked tag"; 0 if there is none
   abbrev pub common-tag : ℕ
   common-tag = first-of pending-somewhere (r .known)
 
@@ -101,7 +101,7 @@ module _ (N : Numbers) (r : Rack) where
   abbrev pub lacks : ℕ → ℕ → Bool
   lacks x c = is-running c && not (r .at c .held x)
 
-  -- "It relays the smallest tag pending at any lit controller to the lit ones that lack it"
+  -- "It relays" that tag "to the lit ones that lack it"
   unfoldable pub relay-steps : List Step
   relay-steps = for-each n (lacks common-tag) (does (Relay common-tag))
 

@@ -5,52 +5,57 @@ use mathlib.Core.Path.{_≡_, refl, sym, _∙_, ap, ap₂, subst, fun-ext}
 use mathlib.Core.Bool.{Bool, true, false, not, _&&_, _||_, true≢false, and-false as and-false-right}
 use mathlib.Core.List.{List}
 use mathlib.Core.Logic.{_⊎_, _≢_, inl, inr, ⊎-elim}
-use Prim.Native.Nat.{ℕ, zero, suc, _+_, _-_, _<_, _≤_}
+use Prim.Native.Nat.{ℕ, zero, suc, _+_, _-_, _^_, _<_, _≤_}
 use native.Mathlib.Omega.{arith}
 use native.Mathlib.Decide.{ℕ-discrete}
 use native.Mathlib.Nat.{le-antisymm}
-use lib.Dec.{eqb}
+use lib.Dec.{ltb, eqb}
 use lib.ListN.{length, getD, take}
-use borrow.Author.Tests.{eqb-true, eqb-false, eq-eqb, ne-eqb, ltb-true, ltb-false, not-true, not-false}
+use borrow.Author.Tests.{leb-true, leb-false, ltb-true, ltb-false, lt-ltb, le-ltb, eqb-true, eqb-false, eq-eqb, ne-eqb, not-true, not-false}
 use Rattle.model.specs.Tests.{if}
 use Rattle.model.specs.declared.Numbers.{Numbers}
 use Rattle.model.specs.declared.Round.the-variants.{Idle}
 use Rattle.model.specs.Rack.{Replica}
-use Rattle.model.specs.Rules.{ahead, earlier, first-of, logged, pending, next-tag}
-use Rattle.model.proofs.Branches.{told, if-false}
-use Rattle.model.proofs.Cases.{and-true, and-both, or-true, or-false, or-none, if-ind}
+use Rattle.model.specs.Rules.{urgent, ahead, earlier, first-of, logged, pending, next-tag}
+use Rattle.model.proofs.Branches.{told, if-true, if-false}
+use Rattle.model.proofs.Cases.{either, and-true, and-both, or-true, or-false, or-none, if-ind}
 use Rattle.tables.specs.Layout.{has-bit, known-in, holders-base, holder-cell, log-cell}
 use Rattle.tables.specs.View.{held-from, holds, log-in}
 use Rattle.tables.specs.Addresses.{log-in-range, log-read}
+use Rattle.model.proofs.FirstTag.{alike-ahead, ahead-itself, ahead-apart, ahead-so, behind, not-ahead}
 use Rattle.model.proofs.Counting.{any-none, any-more, any-here, any-place, any-same}
 use Rattle.known.specs.Room.{Acting, as-holder}
 use Rattle.orders.specs.Waiting.{logged-from, waits-at}
 use Rattle.known.proofs.TagLaws.{in-tags, rest, rest-none, rest-more}
 
--- ---- the order of proposing: what the laws below know of it
+-- ---- which of two tags is ahead
 
--- r is not proposed after x
-pub record NoLater (r x : ℕ) : Type 0 where
-  pub by : r ≤ x
+module _ (x y : ℕ) {a b : ℕ} (p : a ≡ if (urgent x) (x - 2 ^ 63) (x + 2 ^ 63)) (q : b ≡ if (urgent y) (y - 2 ^ 63) (y + 2 ^ 63)) where
+  -- both are urgent, or neither: turned over they keep their order
+  alike : urgent x ≡ urgent y → (x < y → a < b) → (y ≤ x → b ≤ a) → ltb a b ≡ ahead x y
+  alike same less more = either (ltb x y) (λ e. lt-ltb a b (less (ltb-true x y e)) ∙ sym e) (λ e. le-ltb a b (more (ltb-false x y e)) ∙ sym e)
+      ∙ sym (alike-ahead x y same)
 
--- it is an order
-no-later-self : (x : ℕ) → NoLater x x
-no-later-self x = omega arith
+  -- as far as they have 64 bits
+  pub turned-ahead : x < 2 ^ 64 → y < 2 ^ 64 → ltb a b ≡ ahead x y
+  turned-ahead fits also = either (urgent x) of-urgent of-rest
+    where
+      of-urgent : urgent x ≡ true → ltb a b ≡ ahead x y
+      of-urgent u = let h = leb-true (2 ^ 63) x u in let l = p ∙ if-true _ _ u in either (urgent y)
+          (λ v. let k = leb-true (2 ^ 63) y v in let m = q ∙ if-true _ _ v in alike (u ∙ sym v) (λ g. omega arith) (λ g. omega arith))
+          (λ v. let k = leb-false (2 ^ 63) y v in let m = q ∙ if-false _ _ v in lt-ltb a b (omega arith) ∙ sym (ahead-so x y (inl (u, v))))
 
-no-later-both : {r x y : ℕ} → NoLater r x → NoLater x y → NoLater r y
-no-later-both a b = omega arith
-
-no-later-same : {r s : ℕ} → NoLater r s → NoLater s r → r ≡ s
-no-later-same a b = omega arith
-
--- what comes ahead is not later; of what does not, the other is not
-ahead-no-later : {x y : ℕ} → ahead x y ≡ true → NoLater x y
-ahead-no-later {x} {y} e = let h = ltb-true x y e in omega arith
-
-behind-no-later : {x y : ℕ} → ahead x y ≡ false → NoLater y x
-behind-no-later {x} {y} e = let h = ltb-false x y e in omega arith
+      of-rest : urgent x ≡ false → ltb a b ≡ ahead x y
+      of-rest u = let h = leb-false (2 ^ 63) x u in let l = p ∙ if-false _ _ u in either (urgent y)
+          (λ v. let k = leb-true (2 ^ 63) y v in let m = q ∙ if-true _ _ v in
+          le-ltb a b (omega arith) ∙ sym (behind y x x (ahead-itself x) (ahead-so y x (inl (v, u)))))
+          (λ v. let k = leb-false (2 ^ 63) y v in let m = q ∙ if-false _ _ v in alike (u ∙ sym v) (λ g. omega arith) (λ g. omega arith))
 
 -- ---- the first of some tags
+
+-- r is not proposed after x
+abbrev pub NoLater : ℕ → ℕ → Type 0
+NoLater r x = ahead x r ≡ false
 
 -- 0 is none, and tags of 0 are passed over
 abbrev pub First : (ℕ → Type 0) → ℕ → Type 0
@@ -63,7 +68,7 @@ same-first {r = r} {s = s} to back a b = go r s (λ h. b .0 r (to r (a .1 h)) h)
     go : (r s : ℕ) → (0 < r → (0 < s) × NoLater s r) → (0 < s → (0 < r) × NoLater r s) → r ≡ s
     go zero zero f g = refl
     go zero (suc s) f g = let h = g (omega arith) .0 in omega arith
-    go (suc r) s f g = let h = f (omega arith) in no-later-same (g (h .0) .1) (h .1)
+    go (suc r) s f g = let h = f (omega arith) in ahead-apart _ _ (h .1) (g (h .0) .1)
 
 -- the first of the tags so far, and of one more that may pass
 abbrev joined : Bool → ℕ → ℕ → ℕ
@@ -102,7 +107,7 @@ module _ {A B : ℕ → Type 0} (ok : Bool) (y : ℕ) (kept : (x : ℕ) → A x 
   least r new old found = (λ x is pos. go x pos (no-more x is), found)
     where
       go : (x : ℕ) → 0 < x → A x ⊎ ((ok ≡ true) × (y ≡ x)) → (0 < r) × NoLater r x
-      go x pos (inl is) = let l = f .0 x is pos in let m = old (l .0) in (m .0, no-later-both (m .1) (l .1))
+      go x pos (inl is) = let l = f .0 x is pos in let m = old (l .0) in (m .0, not-ahead r b x (l .1) (m .1))
       go x pos (inr (u, same)) = let m = new u (omega arith) in (m .0, subst (NoLater r) same (m .1))
 
   -- b stays one of them
@@ -111,21 +116,21 @@ module _ {A B : ℕ → Type 0} (ok : Bool) (y : ℕ) (kept : (x : ℕ) → A x 
 
   -- y comes ahead of b, or there is no b
   first-ahead : (eqb b 0 || ahead y b) ≡ true → 0 < b → NoLater y b
-  first-ahead q pos = ⊎-elim (λ n. let p = eqb-true b 0 n in absurd (omega arith)) ahead-no-later (or-true (eqb b 0) _ q)
+  first-ahead q pos = ⊎-elim (λ n. let p = eqb-true b 0 n in absurd (omega arith)) (behind y b b (ahead-itself b)) (or-true (eqb b 0) _ q)
 
   -- y does not pass, or is 0
   left : (ok && not (eqb y 0)) ≡ false → First B b
   left e =
       let never : ok ≡ true → 0 < y → ⊥ = (λ u pos. true≢false (sym (and-both ok _ u (ap not (ne-eqb y 0 (omega arith)))) ∙ e)) in
-      least b (λ u pos. absurd (never u pos)) (λ pos. (pos, no-later-self b)) further
+      least b (λ u pos. absurd (never u pos)) (λ pos. (pos, ahead-itself b)) further
 
   -- y passes
   taken : (ok && not (eqb y 0)) ≡ true → First B (earlier y b)
   unfolding earlier
   taken e = let (u, z) = and-true ok _ e in let some = eqb-false y 0 (not-true _ z) in if-ind (First B) (eqb b 0 || ahead y b)
-      (λ q. least y (λ _ pos. (pos, no-later-self y)) (λ pos. (omega arith, first-ahead q pos)) (λ _. added u))
+      (λ q. least y (λ _ pos. (pos, ahead-itself y)) (λ pos. (omega arith, first-ahead q pos)) (λ _. added u))
       (λ q. let (n, l) = or-false (eqb b 0) _ q in let p = eqb-false b 0 n in
-      least b (λ _ pos. (omega arith, behind-no-later l)) (λ pos. (pos, no-later-self b)) further)
+      least b (λ _ pos. (omega arith, l)) (λ pos. (pos, ahead-itself b)) further)
 
   -- one more tag
   turn : First B (joined ok y b)

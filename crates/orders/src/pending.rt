@@ -6,23 +6,34 @@ use known::is_blank;
 use layout::holders_base;
 use layout::log_place;
 use model::Numbers;
+use model::URGENT;
 ghost use mathlib.Core.Path.{_≡_};
 ghost use mathlib.Core.Bool.{_&&_, not};
-ghost use Prim.Native.Nat.{_+_, _<_, _≤_};
+ghost use Prim.Native.Nat.{_+_, _-_, _^_, _<_, _≤_};
 ghost use lib.Dec.{eqb};
 ghost use lib.ListN.{length, take};
 ghost use Rattle.model.specs.declared.Round.the-variants.{Idle};
 ghost use Rattle.model.specs.Tests.{if};
-ghost use Rattle.model.specs.Rules.{ahead, earlier, next-tag};
+ghost use Rattle.model.specs.Rules.{urgent, ahead, earlier, next-tag};
 ghost use Rattle.tables.specs.Layout.{mask-bits, has-bit, known-in};
 ghost use Rattle.known.specs.Room.{Acting, as-holder};
 ghost use Rattle.orders.specs.Waiting.{logged-from};
 
-// The order in which pending tags are proposed.
+// A tag with its highest bit turned over: so the urgent ones, which have it set, are the smaller numbers.
+fn turned(x: u64) -> u64
+    ensures { λ r. ⌜ r ≡ if (urgent x) (x - 2 ^ 63) (x + 2 ^ 63) ⌝ }
+{
+    if x >= URGENT {
+        return x - URGENT;
+    }
+    x + URGENT
+}
+
+// The order in which pending tags are proposed. The compiler makes one comparison of it, a signed one.
 pub fn is_ahead(x: u64, y: u64) -> bool
     ensures { λ r. ⌜ r ≡ ahead x y ⌝ }
 {
-    x < y
+    turned(x) < turned(y)
 }
 
 // Whether one of the closed slots has the tag. A replica's log is one run of cells, from a base on.

@@ -55,7 +55,7 @@ pub extern "C" fn rushhopper_relay(
     number_of(answer)
 }
 
-// "An idle controller proposes its smallest pending tag and enters the exchange."
+// "An idle controller proposes" its first-ranked pending tag "and enters the exchange."
 #[no_mangle]
 pub extern "C" fn rushhopper_begin(
     numbers: Numbers,

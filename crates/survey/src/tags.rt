@@ -1,4 +1,4 @@
-// "the smallest tag pending at any lit controller", and "the lit ones that lack it".
+// "the first-ranked tag" of those "pending at any lit controller", and "the lit ones that lack it".
 use cells::masks::has_bit;
 use cells::masks::with_bit;
 use cells::records::known_in;
