@@ -24,8 +24,8 @@ module _ (N : Numbers) (before : Rack) where
   -- Document 02, Point 3: "In a run from an accepted opening it closes the slot with that tag at all lit controllers in exactly
   -- 3L² + L of the rules' steps besides at most L − 1 relays"
   pub record Conducts (after : Rack) (answer : Answer) : Type 0 where
-    -- "It relays the smallest tag pending at any lit controller": it is pending at one, and none that is pending at one is ahead
-    -- of it
+    -- "It relays the smallest tag pending at any lit controller", now "the first-ranked tag": it is pending at one, and none that
+    -- is pending at one is ahead of it
     pub tag-pending : (c : ℕ) × (c < n) × (is-running N before c ≡ true) × (pending (before .at c) x ≡ true)
     pub tag-first : (c y : ℕ) → c < n → is-running N before c ≡ true → pending (before .at c) y ≡ true → ahead y x ≡ false
     -- "It answers both counts": 3L² + L steps, and the relays "to the lit ones that lack it", which are not all
