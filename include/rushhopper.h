@@ -34,6 +34,10 @@ extern "C" {
  * n 1 to 15 with 2f + 1 at most n, slots 1 to 64, phases 1 to 32, room 1 to 256. */
 struct rushhopper_numbers { size_t n, f, slots, phases, room; };
 
+/* An order's tag is any number but 0. With this bit, its highest, it is urgent and ranks before all tags without it; then the
+ * smaller number counts. */
+#define RUSHHOPPER_URGENT ((uint64_t)1 << 63)
+
 /* Three kinds of index: a call that wants one does not accept another. Replicas and slots count from 0, phases from 1. */
 struct rushhopper_replica { size_t number; };
 struct rushhopper_slot { size_t index; };
@@ -187,7 +191,7 @@ size_t rushhopper_submit(struct rushhopper_numbers numbers, struct rushhopper_re
 size_t rushhopper_relay(struct rushhopper_numbers numbers, struct rushhopper_replica who, uint64_t tag,
                         RUSHHOPPER_MEMORIES, const uint8_t *strip, size_t strip_length);
 
-/* An idle replica proposes its smallest pending tag and enters the exchange. Refusals 10, 11, 12. */
+/* An idle replica proposes its first-ranked pending tag (RUSHHOPPER_URGENT) and enters the exchange. Refusals 10, 11, 12. */
 size_t rushhopper_begin(struct rushhopper_numbers numbers, struct rushhopper_replica who,
                         RUSHHOPPER_MEMORIES, const uint8_t *strip, size_t strip_length);
 
@@ -216,11 +220,11 @@ size_t rushhopper_crash(struct rushhopper_numbers numbers, struct rushhopper_rep
 /* Takes all running replicas through their next slot, with no hearing named. They must be at least a quorum and all idle at
  * the same slot, and nobody, running or crashed, may have sent a message of that slot; a notice is one, too.
  *
- * The smallest tag that is pending at any of them is relayed to those that do not hold it, and each begins. In the exchange,
- * and in the state and vote rounds of phase 1, each then hears each other, and then each advances; all in the order of their
- * numbers. No notice is heard. In a run from an accepted opening this closes the slot with that tag at all L of them, in
- * exactly 3 * L * L + L steps besides at most L - 1 relays: 30 steps for three. In memories that no run leaves, a step that is
- * refused on the way is passed over and not counted, and the slot may stay open.
+ * The first-ranked tag that is pending at any of them is relayed to those that do not hold it, and each begins. In the
+ * exchange, and in the state and vote rounds of phase 1, each then hears each other, and then each advances; all in the order
+ * of their numbers. No notice is heard. In a run from an accepted opening this closes the slot with that tag at all L of them,
+ * in exactly 3 * L * L + L steps besides at most L - 1 relays: 30 steps for three. In memories that no run leaves, a step that
+ * is refused on the way is passed over and not counted, and the slot may stay open.
  *
  * Refusals 3, 2, 23, 22, 11, 12, in this order: no replica is named, so there is no 4 or 5. */
 struct rushhopper_conducted rushhopper_conduct(struct rushhopper_numbers numbers,

@@ -3,7 +3,7 @@
 
     python3 tools/steps.py pack FILE.txt > FILE.steps     text to step file
     python3 tools/steps.py unpack FILE.steps              step file to text
-    python3 tools/steps.py explain FILE REPORT            report, with the refused steps beside it
+    python3 tools/steps.py explain FILE REPORT            report, with refused steps and readable tags beside it
 
 `-` stands for standard input. FILE of explain is a step file if its name ends in .steps, else text.
 
@@ -21,10 +21,14 @@ The text has one step to a line; blank lines and what follows a # are passed ove
     crash 1
     run on 0
 
-A tag is a decimal number, or TIME:NUMBER for TIME times 2^32 plus NUMBER. Any number that fits its bytes can be written,
-also one that the library refuses; a sort that has no name is written as its number. A phase that is left out is 0, but a
-state or vote wants one. The rehearsal program has tables for 7 controllers, 16 slots, 16 phases and 64 tags: larger openings
-get refusal 2 there. The conductor has no kind of record: its steps are written one by one.
+A tag is a decimal number, or TIME:NUMBER for TIME times 2^32 plus NUMBER; a ! before it adds 2^63, which makes it urgent
+(!9, !1400:2), and urgent tags are always shown so. Reports have decimals; behind a log with any tag from 2^32 on, explain puts
+it in brackets as the text writes it.
+
+Any number that fits its bytes can be written, also one that the library refuses; a sort that has no name is written as its
+number. A phase that is left out is 0, but a state or vote wants one. The rehearsal program has tables for 7 controllers, 16
+slots, 16 phases and 64 tags: larger openings get refusal 2 there. The conductor has no kind of record: its steps are written
+one by one.
 """
 
 import argparse
@@ -80,7 +84,10 @@ KINDS = (
 )
 SORTS = {"proposal": 1, "state": 2, "vote": 3, "notice": 4}
 SORT_WORDS = {number: word for word, number in SORTS.items()}
+TAGS = 2**64
 HALF_TAG = 2**32
+URGENT = 2**63
+MARK = "!"
 
 UNKNOWN_KIND = 19
 CUT_RECORD = 20
@@ -123,11 +130,18 @@ def decimal(word, limit):
     return number if number < limit else None
 
 
-def read_tag(word):
+def read_unmarked(word):
     halves = [decimal(half, HALF_TAG) for half in word.split(":")]
     if len(halves) == 2 and None not in halves:
         return halves[0] * HALF_TAG + halves[1]
-    return decimal(word, HALF_TAG**2)
+    return decimal(word, TAGS)
+
+
+def read_tag(word):
+    if not word.startswith(MARK):
+        return read_unmarked(word)
+    rest = read_unmarked(word.removeprefix(MARK))
+    return None if rest is None or rest >= URGENT else URGENT + rest
 
 
 def read_field(field, word):
@@ -142,7 +156,8 @@ def wanted(field):
     """What a field takes, in words."""
     most = 256**field.size - 1
     if field.name == "tag":
-        return f"a tag (a number from 0 to {most}, or time:number with each from 0 to {HALF_TAG - 1})"
+        urgent = f"if urgent, {MARK} before a number up to {URGENT - 1} or a time up to {URGENT // HALF_TAG - 1}"
+        return f"a tag (a number from 0 to {most}, or time:number with each from 0 to {HALF_TAG - 1}; {urgent})"
     if field.name == "sort":
         return f"a sort ({', '.join(SORTS)})"
     return f"a number from 0 to {most} as {field.name}"
@@ -199,9 +214,15 @@ def read_text(name, text):
     return steps
 
 
+def tag_text(tag):
+    urgent, rest = divmod(tag, URGENT)
+    time, number = divmod(rest, HALF_TAG)
+    return MARK * urgent + (f"{time}:{number}" if time else str(number))
+
+
 def field_text(field, number):
-    if field.name == "tag" and number >= HALF_TAG:
-        return "{}:{}".format(*divmod(number, HALF_TAG))
+    if field.name == "tag":
+        return tag_text(number)
     if field.name == "sort":
         return SORT_WORDS.get(number, str(number))
     return str(number)
@@ -249,11 +270,27 @@ def refusal_text(number):
     return f"{word} ({meaning})"
 
 
+def entry_text(entry):
+    """An entry of a report as the text writes it, an empty slot as it stands; None for what is no entry."""
+    if entry == "-":
+        return entry
+    tag = decimal(entry, TAGS)
+    return None if tag is None else tag_text(tag)
+
+
+def explain_bench(line):
+    """A line of a report; behind a log with tags that the text writes otherwise, the log as the text has it."""
+    bench = re.fullmatch("bench [0-9]+ (?:lit|dark) [0-9]+ (.+)", line)
+    entries = bench[1].split(" ") if bench else []
+    shown = [entry_text(entry) for entry in entries]
+    return line if None in shown or shown == entries else f"{line}  ({' '.join(shown)})"
+
+
 def explain_line(line, records):
     """A line of a report; behind a refusal the step that was refused, and why."""
     refused = re.fullmatch("refused ([0-9]{1,9}) ([0-9]{1,9})", line)
     if not refused:
-        return line
+        return explain_bench(line)
     record, refusal = int(refused[1]), int(refused[2])
     if not 1 <= record <= len(records):
         raise Mistakes([f"'{line}': the file ends with record {len(records)}"])

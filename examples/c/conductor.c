@@ -1,5 +1,5 @@
-/* Three slots by the conductor alone: five controllers of which one goes dark, and orders handed in at different ones. Writes
- * an account of each slot, every log, and what the conductor says once nothing is pending.
+/* Three slots by the conductor alone: five controllers of which one goes dark, and orders handed in at different ones, one of
+ * them urgent. Writes an account of each slot, every log, and what the conductor says once nothing is pending.
  *
  *     gcc -std=c99 -Wall -Wextra -pedantic -I include examples/c/conductor.c FOLDER/librushhopper.a -o conductor
  */
@@ -20,15 +20,21 @@ static int open_run(void)
     return rushhopper_open_in(&rack, plan, 0) == RUSHHOPPER_ACCEPTED;
 }
 
-/* Order 9 is handed in twice. Controller 2 goes dark before anyone else has its order 3. */
+/* Order 9 is handed in twice, and order 12 is urgent. Controller 2 goes dark before anyone else has its order 3. */
 static int hand_in(void)
 {
     return rushhopper_submit_in(&rack, zero, 9) == RUSHHOPPER_ACCEPTED
         && rushhopper_submit_in(&rack, four, 9) == RUSHHOPPER_ACCEPTED
-        && rushhopper_submit_in(&rack, one, 12) == RUSHHOPPER_ACCEPTED
+        && rushhopper_submit_in(&rack, one, RUSHHOPPER_URGENT + 12) == RUSHHOPPER_ACCEPTED
         && rushhopper_submit_in(&rack, three, 7) == RUSHHOPPER_ACCEPTED
         && rushhopper_submit_in(&rack, two, 3) == RUSHHOPPER_ACCEPTED
         && rushhopper_crash_in(&rack, two) == RUSHHOPPER_ACCEPTED;
+}
+
+/* An urgent order with a mark instead of its highest bit. */
+static void print_order(uint64_t tag)
+{
+    printf("%s%" PRIu64, tag & RUSHHOPPER_URGENT ? "!" : "", tag & ~RUSHHOPPER_URGENT);
 }
 
 /* The slot that comes next is that of controller 0, which stays lit. */
@@ -38,11 +44,13 @@ static void conduct(void)
     const struct rushhopper_conducted conducted = rushhopper_conduct_in(&rack);
 
     printf("slot %zu: ", slot.index);
-    if (conducted.refusal == RUSHHOPPER_ACCEPTED)
-        printf("order %" PRIu64 ", %zu steps and %zu relays\n", rushhopper_entry_of(&rack, zero, slot), conducted.steps,
-               conducted.relays);
-    else
+    if (conducted.refusal != RUSHHOPPER_ACCEPTED) {
         printf("refused, %zu: %s\n", conducted.refusal, rushhopper_word(conducted.refusal));
+        return;
+    }
+    printf("order ");
+    print_order(rushhopper_entry_of(&rack, zero, slot));
+    printf(", %zu steps and %zu relays\n", conducted.steps, conducted.relays);
 }
 
 static void print_log(struct rushhopper_replica who)
@@ -51,8 +59,10 @@ static void print_log(struct rushhopper_replica who)
     struct rushhopper_slot slot;
 
     printf("controller %zu %s:", who.number, record.crashed ? "dark" : "lit");
-    for (slot.index = 0; slot.index < record.slot; slot.index++)
-        printf(" %" PRIu64, rushhopper_entry_of(&rack, who, slot));
+    for (slot.index = 0; slot.index < record.slot; slot.index++) {
+        printf(" ");
+        print_order(rushhopper_entry_of(&rack, who, slot));
+    }
     printf("\n");
 }
 

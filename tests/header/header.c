@@ -316,6 +316,28 @@ static void a_run_on_counts_its_advances(void)
     EXPECT(ran.refusal == RUSHHOPPER_ACCEPTED && ran.advances == 3);
 }
 
+/* Begin proposes the first-ranked of the tags that replica 0 holds: its proposal is the first behind the known tags. */
+static void urgent_tags_are_proposed_first(void)
+{
+    static const struct { uint64_t held[3], proposed; } rows[] = {
+        {{9, 5, 7}, 5},
+        {{5, RUSHHOPPER_URGENT + 9, 1}, RUSHHOPPER_URGENT + 9},
+        {{RUSHHOPPER_URGENT + 9, 5, RUSHHOPPER_URGENT + 7}, RUSHHOPPER_URGENT + 7},
+        {{RUSHHOPPER_URGENT - 1, UINT64_MAX, 1}, UINT64_MAX},
+        {{UINT64_MAX, RUSHHOPPER_URGENT, 1}, RUSHHOPPER_URGENT}
+    };
+    size_t i, j;
+
+    EXPECT(RUSHHOPPER_URGENT == 0x8000000000000000u && sizeof RUSHHOPPER_URGENT == sizeof(uint64_t));
+    for (i = 0; i < sizeof rows / sizeof rows[0]; i++) {
+        EXPECT(rushhopper_open_in(&rack, three, 0) == RUSHHOPPER_ACCEPTED);
+        for (j = 0; j < 3; j++)
+            EXPECT(rushhopper_submit_in(&rack, zero, rows[i].held[j]) == RUSHHOPPER_ACCEPTED);
+        EXPECT(rushhopper_begin_in(&rack, zero) == RUSHHOPPER_ACCEPTED);
+        EXPECT(rack.orders[rack.numbers.room] == rows[i].proposed);
+    }
+}
+
 static void expect_conducted(struct rushhopper_memories *memories, size_t steps, size_t relays)
 {
     const struct rushhopper_conducted conducted = rushhopper_conduct_in(memories);
@@ -367,6 +389,22 @@ static void slots_are_conducted(void)
     expect_not_conducted(RUSHHOPPER_LOG_FULL);
     EXPECT(rushhopper_submit_in(&rack, zero, 9) == RUSHHOPPER_ACCEPTED);
     expect_not_conducted(RUSHHOPPER_LOG_FULL);
+}
+
+/* All hold the smaller tag, and one alone the urgent one. */
+static void an_urgent_tag_is_conducted_first(void)
+{
+    const uint64_t urgent = RUSHHOPPER_URGENT + 9;
+
+    EXPECT(rushhopper_open_in(&rack, three, 0) == RUSHHOPPER_ACCEPTED);
+    EXPECT(rushhopper_submit_in(&rack, zero, 5) == RUSHHOPPER_ACCEPTED);
+    EXPECT(rushhopper_relay_in(&rack, one, 5) == RUSHHOPPER_ACCEPTED);
+    EXPECT(rushhopper_relay_in(&rack, two, 5) == RUSHHOPPER_ACCEPTED);
+    EXPECT(rushhopper_submit_in(&rack, two, urgent) == RUSHHOPPER_ACCEPTED);
+    expect_conducted(&rack, 30, 2);
+    EXPECT(stands_behind(zero, 1, urgent) && stands_behind(one, 1, urgent) && stands_behind(two, 1, urgent));
+    expect_conducted(&rack, 30, 0);
+    EXPECT(stands_behind(zero, 2, 5) && stands_behind(one, 2, 5) && stands_behind(two, 2, 5));
 }
 
 /* 3 * L * L + L steps for L running replicas: the crashed one of three takes no part, and its order waits. */
@@ -502,7 +540,9 @@ int main(void)
     a_notice_closes_a_slot(7, 7, 7);
     a_notice_closes_a_slot(7, 9, 0);
     a_run_on_counts_its_advances();
+    urgent_tags_are_proposed_first();
     slots_are_conducted();
+    an_urgent_tag_is_conducted_first();
     any_number_of_running_replicas_is_conducted();
     a_conductor_refuses_in_its_order();
     a_notice_makes_a_rack_level();

@@ -34,7 +34,10 @@ bench 1 dark 0
 bench 2 lit 0
 """
 
-TAG_WANTED = "a tag (a number from 0 to 18446744073709551615, or time:number with each from 0 to 4294967295)"
+TAG_WANTED = (
+    "a tag (a number from 0 to 18446744073709551615, or time:number with each from 0 to 4294967295; "
+    "if urgent, ! before a number up to 9223372036854775807 or a time up to 2147483647)"
+)
 STEPS_WANTED = "expected opening, submit, relay, begin, hear, advance, crash or run on"
 HEAR_WANTED = "hear wants 5 words (receiver, sender, sort, slot, phase; no phase for a proposal or notice)"
 SORT_WANTED = "hear wants a sort (proposal, state, vote, notice)"
@@ -86,9 +89,35 @@ class Layout(unittest.TestCase):
         self.check("relay 1 4294967295", 2, 1, 255, 255, 255, 255, 0, 0, 0, 0)
         self.check("submit 2 1:0", 1, 2, 0, 0, 0, 0, 1, 0, 0, 0)
         self.check("submit 2 1355:17", 1, 2, 17, 0, 0, 0, 75, 5, 0, 0)
-        self.check("relay 2 4294967295:4294967295", 2, 2, *[255] * 8)
-        self.assertEqual(packed("submit 0 18446744073709551615"), packed("submit 0 4294967295:4294967295"))
-        self.assertEqual(packed("submit 0 0:5"), packed("submit 0 5"))
+        self.check("relay 2 2147483647:4294967295", 2, 2, *[255] * 7, 127)
+        self.check("submit 0 !0", 1, 0, *[0] * 7, 128)
+        self.check("submit 0 !9", 1, 0, 9, *[0] * 6, 128)
+        self.check("relay 1 !4294967295", 2, 1, *[255] * 4, 0, 0, 0, 128)
+        self.check("submit 2 !1400:2", 1, 2, 2, 0, 0, 0, 120, 5, 0, 128)
+        self.check("relay 2 !2147483647:4294967295", 2, 2, *[255] * 8)
+
+    def test_spellings_of_a_tag(self):
+        for tag, *others in (
+            ("5", "0:5", "005"),
+            ("1400:2", "6012954214402"),
+            ("!0", "9223372036854775808", "2147483648:0", "!0:0"),
+            ("!9", "9223372036854775817", "2147483648:9", "!0:9", "!009"),
+            ("!1400:2", "9223378049808990210", "2147485048:2", "!6012954214402"),
+            ("!2147483647:4294967295", "18446744073709551615", "4294967295:4294967295", "!9223372036854775807"),
+        ):
+            for other in others:
+                self.assertEqual(packed(f"submit 0 {other}"), packed(f"submit 0 {tag}"))
+
+    def test_random_tags(self):
+        """As a number, by its halves and as it is shown, a tag is the same; the mark stands for the highest bit."""
+        draw = random.Random(3)
+        for size in draw.choices(range(65), k=1000):
+            tag = draw.randrange(2**size)
+            shown = steps.tag_text(tag)
+            halves = f"{tag >> 32}:{tag % 2**32}"
+            self.assertEqual([steps.read_tag(word) for word in (str(tag), halves, shown)], [tag] * 3)
+            self.assertEqual(shown.startswith("!"), tag >= 2**63)
+            self.assertEqual(steps.read_tag("!" + shown), None if tag >= 2**63 else tag + 2**63)
 
     def test_hear(self):
         self.check("hear 0 1 proposal 2", 4, 0, 1, 1, 2, 0)
@@ -182,8 +211,11 @@ class Mistaken(unittest.TestCase):
         self.check("hear 2 0 notice 0 x", "hear wants a number from 0 to 255 as phase, not 'x'")
 
     def test_tags(self):
-        for tag in ("x", "18446744073709551616", "1:", ":1", "1:2:3", "4294967296:0", "0:4294967296", "-5"):
+        unmarked = ("x", "18446744073709551616", "1:", ":1", "1:2:3", "4294967296:0", "0:4294967296", "-5", "5!", "1:!2")
+        large = ("!9223372036854775808", "!2147483648:0", "!0:4294967296", "!4294967295:4294967295", "!" + "9" * 5000)
+        for tag in (*unmarked, *large, "!", "!x", "!1:", "!:1", "!1:2:3", "!-5", "!!9", "!!1400:2", "!" * 5000):
             self.check(f"submit 0 {tag}", f"submit wants {TAG_WANTED}, not '{tag}'")
+        self.check("relay 0 ! 9", "relay wants 2 words (controller, tag), not 3", f"relay wants {TAG_WANTED}, not '!'")
 
     def test_sorts(self):
         self.check("hear 0 1 votes 0 1", f"{SORT_WANTED}, not 'votes'")
@@ -198,6 +230,34 @@ class Mistaken(unittest.TestCase):
         text = "opening 3 1 2 4 4 0\nbegin x\n\nsubmit 300 y\nadvance 0\nend\n"
         given = [(2, "begin"), (4, "submit"), (4, "submit"), (6, "no")]
         self.assertEqual([line.split()[:2] for line in mistakes(text)], [[f"text:{at}:", word] for at, word in given])
+
+
+class Logs(unittest.TestCase):
+    """What explain puts behind a controller's line of a report."""
+
+    def check(self, line, explained=""):
+        self.assertEqual(steps.explain_line(line, []), line + explained)
+
+    def test_tags_that_the_text_writes_otherwise(self):
+        self.check("bench 1 lit 2 5819680686081 6012954214402", "  (1355:1 1400:2)")
+        self.check("bench 0 dark 1 4294967296", "  (1:0)")
+        self.check("bench 14 lit 4 - 5 - 9223372036854775817", "  (- 5 - !9)")
+        self.check("bench 2 lit 3 9223372036854775808 9223378049808990210 -", "  (!0 !1400:2 -)")
+        self.check("bench 2 dark 1 18446744073709551615", "  (!2147483647:4294967295)")
+
+    def test_tags_that_are_decimal(self):
+        self.check("bench 0 lit 0")
+        self.check("bench 1 dark 0")
+        self.check("bench 2 lit 3 5 - 4294967295")
+        self.check("bench 3 dark 2 - -")
+
+    def test_damaged_lines(self):
+        for entries in ("6012954214402 x", "6012954214402  -", "6012954214402 ", " 6012954214402", "6012954214402 !9", "--"):
+            self.check(f"bench 0 lit 2 {entries}")
+        for entry in ("18446744073709551616", "-6012954214402", "9" * 5000, "1400:2"):
+            self.check(f"bench 0 lit 2 6012954214402 {entry}")
+        for start in ("bench 0 lit", "bench 0 off 1", "bench x lit 1", "bench 0 lit -", "bench lit 1", "Bench 0 lit 1", ""):
+            self.check(f"{start} 6012954214402")
 
 
 class Commands(unittest.TestCase):
@@ -220,6 +280,7 @@ class Commands(unittest.TestCase):
         self.assertIn("opening 3 1 2 4 4 0 # n f slots phases room start; a phase limit of 0 stands for 16", said)
         self.assertIn("16 phases and 64 tags: larger openings get refusal 2 there", said)
         self.assertIn("The conductor has no kind of record", said)
+        self.assertIn("a ! before it adds 2^63, which makes it urgent (!9, !1400:2)", said)
 
     def test_worked_session(self):
         text = ROOT / "examples" / "worked_session.txt"
@@ -262,6 +323,16 @@ class Commands(unittest.TestCase):
         )
         self.assertEqual(command("explain", path, "-", given=report), (0, explained.encode(), ""))
         self.assertEqual(command("explain", path, "-"), (0, b"", ""))
+
+    def test_explain_shows_tags_as_the_text_does(self):
+        path = self.file("urgent.txt", b"opening 1 0 2 1 4 0\nsubmit 0 9223378049808990210\nrelay 0 2147485048:2\n")
+        report = b"controllers 1 spare 0\nrefused 3 7\nbench 0 lit 1 9223378049808990210\n"
+        explained = (
+            "controllers 1 spare 0\n"
+            "refused 3 7        line 3: relay 0 !1400:2: held (the controller holds this tag)\n"
+            "bench 0 lit 1 9223378049808990210  (!1400:2)\n"
+        )
+        self.assertEqual(command("explain", path, "-", given=report), (0, explained.encode(), ""))
 
     def test_a_report_of_another_file(self):
         path = self.file("short.txt", b"begin 0\n")

@@ -52,3 +52,6 @@ pub use numbers::{Conducted, Numbers, Phase, Plan, Replica, Slot};
 pub use play::{play, play_within};
 pub use rack::{Message, Rack, Record, Round};
 pub use refusal::Refusal;
+
+/// The highest bit of a tag. A tag with it is urgent and ranks before all without it; then the smaller number counts.
+pub const URGENT: u64 = 1 << 63;

@@ -68,7 +68,7 @@ impl Rack {
         self.memories.relay(self.numbers, who, tag)
     }
 
-    /// An idle replica proposes its smallest pending tag and enters the exchange.
+    /// An idle replica proposes its first-ranked pending tag (see [`URGENT`](crate::URGENT)) and enters the exchange.
     pub fn begin(&mut self, who: Replica) -> Result<(), Refusal> {
         self.memories.begin(self.numbers, who)
     }
@@ -90,8 +90,8 @@ impl Rack {
         self.memories.run_on(self.numbers, who)
     }
 
-    /// Takes all running replicas through their next slot, with no hearing named: the smallest tag that is pending at any of
-    /// them is relayed to those that do not hold it, and each begins; in the exchange, and in the state and vote rounds of
+    /// Takes all running replicas through their next slot, with no hearing named: the first-ranked tag that is pending at any
+    /// of them is relayed to those that do not hold it, and each begins; in the exchange, and in the state and vote rounds of
     /// phase 1, each hears each other, and then each advances. That closes the slot with that tag at all of them.
     ///
     /// Refused with

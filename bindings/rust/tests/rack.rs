@@ -1,6 +1,8 @@
 //! Runs through the calls of a rack.
 
-use rushhopper::{Conducted, Message, Numbers, Phase, Plan, Rack, Record, Refusal, Replica, Round, Slot};
+use rushhopper::{
+    Conducted, Message, Numbers, Phase, Plan, Rack, Record, Refusal, Replica, Round, Slot, URGENT,
+};
 
 const FIRST: Slot = Slot(0);
 
@@ -126,6 +128,21 @@ fn tags_are_known_once() {
     assert_eq!(rack.known(), 2);
     assert_eq!(rack.submit(Replica(1), 7), Ok(()));
     assert_eq!(rack.known(), 3);
+}
+
+/// A replica alone closes a slot with each of its tags, by their ranks.
+#[test]
+fn urgent_tags_are_proposed_first() {
+    let mut rack = Rack::open(plan(1, 0, 4)).expect("a plan within the limits");
+    let who = Replica(0);
+    for tag in [9, URGENT + 9, 5, URGENT] {
+        assert_eq!(rack.submit(who, tag), Ok(()));
+    }
+    for _ in 0..4 {
+        assert_eq!((rack.begin(who), rack.run_on(who)), (Ok(()), Ok(3)));
+    }
+    assert_eq!(rack.log(who), [URGENT, URGENT + 9, 5, 9]);
+    assert_eq!(URGENT, 9_223_372_036_854_775_808);
 }
 
 #[test]
@@ -304,6 +321,20 @@ fn the_smallest_pending_tag_is_conducted() {
     not_conducted(&mut rack, Refusal::LogFull);
     assert_eq!(rack.submit(Replica(0), 7), Ok(()));
     not_conducted(&mut rack, Refusal::LogFull);
+}
+
+/// All hold the smaller tag, and one alone the urgent one.
+#[test]
+fn an_urgent_tag_is_conducted_first() {
+    let mut rack = Rack::open(plan(3, 1, 2)).expect("a plan within the limits");
+    for who in rack.replicas() {
+        assert_eq!(rack.submit(who, 5), Ok(()));
+    }
+    assert_eq!(rack.submit(Replica(2), URGENT + 9), Ok(()));
+    assert_eq!((rack.conduct(), rack.conduct()), (conducted(30, 2), conducted(30, 0)));
+    for who in rack.replicas() {
+        assert_eq!(rack.log(who), [URGENT + 9, 5]);
+    }
 }
 
 /// In every rack with any number of crashed replicas that a quorum allows; the tag is held by one, or by all.
