@@ -227,7 +227,7 @@ fn vote_close(numbers: &Numbers, fill: Fill) -> (Script, Work) {
 fn vote_coin(numbers: &Numbers, fill: Fill) -> (Script, Work) {
     let (n, others) = (numbers.n, numbers.quorum() - 1);
     let mut script = Script::filled(numbers, fill);
-    script.share_in_camps();
+    script.share_in_camps([1, 2]);
     script.begin(0..n);
     script.hear(0, 1..=others, Sort::Proposal);
     for who in 1..n {
@@ -246,7 +246,7 @@ fn vote_coin(numbers: &Numbers, fill: Fill) -> (Script, Work) {
 fn find(numbers: &Numbers, fill: Fill) -> (Script, Work) {
     let last = numbers.n - 1;
     let mut script = Script::filled(numbers, fill);
-    script.share_in_camps();
+    script.share_in_camps([1, 2]);
     script.leave_in(FIND);
     script.hear(last, 0..numbers.n - numbers.quorum(), Sort::Proposal);
     (script, Work::Call(Call::Advance { who: last }))

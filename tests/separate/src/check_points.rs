@@ -4,6 +4,7 @@
 mod conductor;
 mod notices;
 mod phases;
+mod urgent;
 
 use crate::call::{Call, Done};
 use crate::memories::{bit, Memories, Record, EXCHANGE, IDLE, ONE, STATE, UNDECIDED, VOTE, ZERO};
@@ -124,13 +125,16 @@ fn c9_find() {
     assert_eq!(memories.log(&numbers, 0, 1), [5]);
 }
 
+/// "Case C10 is unchanged; add pending 5 and 2^63 + 9, which proposes 2^63 + 9."
 #[test]
-fn c10_smallest_pending() {
-    let (numbers, mut memories) = opened(3, 1);
-    for tag in [9, 5] {
-        assert_eq!(rules::submit(&numbers, 0, tag, &mut memories), Ok(rules::Submitted::New));
+fn c10_first_ranked_pending() {
+    for (tags, first) in [([9, 5], 5), ([5, 9_223_372_036_854_775_817], 9_223_372_036_854_775_817)] {
+        let (numbers, mut memories) = opened(3, 1);
+        for tag in tags {
+            assert_eq!(rules::submit(&numbers, 0, tag, &mut memories), Ok(rules::Submitted::New));
+        }
+        assert_eq!(rules::begin(&numbers, 0, &mut memories), Ok(first));
     }
-    assert_eq!(rules::begin(&numbers, 0, &mut memories), Ok(5));
 }
 
 #[test]

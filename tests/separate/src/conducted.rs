@@ -5,10 +5,12 @@ use crate::call::Done;
 use crate::conductor::Conducted;
 use crate::memories::{Memories, Record, IDLE};
 use crate::numbers::{Message, Numbers, Sort, MOST_REPLICAS};
+use crate::rank::{first_ranked, is_urgent, rank};
 use crate::refusal::Refusal;
+use crate::tally::{occurred, Facts};
 
 /// What a run can meet.
-pub const EVENTS: [&str; 25] = [
+pub const EVENTS: [&str; 30] = [
     "conducted without a relay",
     "conducted with L - 1 relays",
     "conducted with fewer relays than L - 1",
@@ -23,7 +25,12 @@ pub const EVENTS: [&str; 25] = [
     "conducted with a crashed one in a round",
     "conducted a tag that is not the oldest known",
     "conducted a tag that the lowest lit one lacked",
-    "conducted while a smaller tag waits at a crashed one",
+    "conducted while a crashed one's tag ranks before",
+    "conducted an urgent tag, a smaller one waits",
+    "conducted the smaller of two urgent tags",
+    "conducted the smaller of two that are not urgent",
+    "conducted an urgent tag that one lit one alone held",
+    "conducted while an urgent tag waits at a crashed one only",
     "conduct, refused 23: one below the quorum",
     "conduct, refused 23: a majority lit",
     "conduct, refused 23: nobody lit",
@@ -57,9 +64,6 @@ pub const EVENTS_OF_DAMAGE: [&str; 16] = [
     "passed over nothing, but closed empty",
 ];
 
-/// Events, each with whether it occurred.
-type Facts = Vec<(&'static str, bool)>;
-
 /// The events of a conductor's call by these numbers. A scene is made of whole memories only, where the cells are there.
 pub fn met(
     numbers: &Numbers,
@@ -67,11 +71,12 @@ pub fn met(
     before: &Memories,
     after: &Memories,
 ) -> Vec<&'static str> {
-    let facts = match *result {
+    occurred(match *result {
         Ok(Done::Conducted(conducted)) => {
             let scene = Scene::of(numbers, before);
-            let rack = [scene.size(conducted), scene.rack(), scene.tag(), scene.damage()].concat();
-            [rack, scene.passed_over(conducted, after)].concat()
+            let rack = [scene.size(conducted), scene.rack(), scene.damage()].concat();
+            let tag = scene.tag.map(|tag| [scene.taken(tag), scene.waiting(tag)].concat());
+            [rack, tag.unwrap_or_default(), scene.passed_over(conducted, after)].concat()
         }
         Err(Refusal::ShortTable) => short(numbers, before),
         Err(Refusal::TooFewLit) => Scene::of(numbers, before).too_few(),
@@ -80,8 +85,7 @@ pub fn met(
             vec![("conduct, refused 11: nothing pending either", Scene::of(numbers, before).tag.is_none())]
         }
         _ => Vec::new(),
-    };
-    facts.into_iter().filter(|(_, holds)| *holds).map(|(event, _)| event).collect()
+    })
 }
 
 fn short(numbers: &Numbers, before: &Memories) -> Facts {
@@ -94,7 +98,7 @@ fn short(numbers: &Numbers, before: &Memories) -> Facts {
 }
 
 /// "In a run from an accepted opening it closes the slot with that tag at all lit controllers in exactly 3L² + L of
-/// the rules' steps besides at most L − 1 relays". Answers what is not so.
+/// the rules' steps besides at most L − 1 relays", that tag being the first-ranked one. Answers what is not so.
 pub fn claim(
     numbers: &Numbers,
     before: &Memories,
@@ -138,9 +142,8 @@ struct Scene<'a> {
 impl Scene<'_> {
     fn of<'a>(numbers: &'a Numbers, memories: &'a Memories) -> Scene<'a> {
         let lit = memories.lit(numbers);
-        let slot_of = |who| memories.record(who).map_or(0, |record| usize::from(record.slot));
-        let tag = lit.iter().filter_map(|&who| memories.smallest_pending(numbers, who, slot_of(who))).min();
-        Scene { numbers, memories, slot: lit.first().map_or(0, |&who| slot_of(who)), lit, tag }
+        let tag = first_ranked(lit.iter().flat_map(|&who| memories.pending(numbers, who)));
+        Scene { numbers, memories, slot: lit.first().map_or(0, |&who| memories.slot(who)), lit, tag }
     }
 
     fn records(&self) -> impl Iterator<Item = Record> + Clone + '_ {
@@ -192,28 +195,40 @@ impl Scene<'_> {
         ]
     }
 
-    fn tag(&self) -> Facts {
-        let Some(tag) = self.tag else { return Vec::new() };
+    fn taken(&self, tag: u64) -> Facts {
         let lowest_lacks = self.lit.first().is_some_and(|&who| !self.memories.holds(self.numbers, who, tag));
         let logged = |who: &usize| self.memories.log(self.numbers, *who, self.slot).contains(&tag);
         let known = &self.memories.orders[..self.memories.known()];
         vec![
             ("conducted a tag that is not the oldest known", self.memories.place(tag) > Some(0)),
             ("conducted a tag that the lowest lit one lacked", lowest_lacks),
-            ("conducted while a smaller tag waits at a crashed one", self.waits_below(tag)),
             ("conducted a tag that some lit ones have logged", self.lit.iter().any(logged)),
             ("conducted a tag that is known twice", known.iter().filter(|&&other| other == tag).count() > 1),
         ]
     }
 
-    /// Whether a crashed one has a smaller tag pending.
-    fn waits_below(&self, tag: u64) -> bool {
-        let crashed = (0..self.numbers.n).filter(|who| !self.lit.contains(who));
-        let pending = |who: usize| {
-            let slot = usize::from(self.memories.record(who)?.slot);
-            self.memories.smallest_pending(self.numbers, who, slot)
-        };
-        crashed.filter_map(pending).any(|other| other < tag)
+    /// What is pending beside the conductor's tag.
+    fn waiting(&self, tag: u64) -> Facts {
+        let (lit, crashed) = (self.others(tag, true), self.others(tag, false));
+        let holders = self.lit.iter().filter(|&&who| self.memories.holds(self.numbers, who, tag)).count();
+        let (urgent, alone) = (is_urgent(tag), holders == 1 && self.lit.len() > 1);
+        let before = crashed.iter().any(|&other| rank(other) < rank(tag));
+        let crashed_only = !urgent && crashed.iter().any(|&other| is_urgent(other));
+        vec![
+            ("conducted while a crashed one's tag ranks before", before),
+            ("conducted an urgent tag, a smaller one waits", urgent && lit.iter().any(|&other| other < tag)),
+            ("conducted the smaller of two urgent tags", urgent && lit.iter().any(|&other| is_urgent(other))),
+            ("conducted the smaller of two that are not urgent", !urgent && !lit.is_empty()),
+            ("conducted an urgent tag that one lit one alone held", urgent && alone),
+            ("conducted while an urgent tag waits at a crashed one only", crashed_only),
+        ]
+    }
+
+    /// The tags beside this one that are pending at lit replicas, or at crashed ones.
+    fn others(&self, tag: u64, are_lit: bool) -> Vec<u64> {
+        let replicas = (0..self.numbers.n).filter(|who| self.lit.contains(who) == are_lit);
+        let pending = replicas.flat_map(|who| self.memories.pending(self.numbers, who));
+        pending.filter(|&other| other != tag).collect()
     }
 
     fn damage(&self) -> Facts {

@@ -4,6 +4,7 @@
 use crate::call::Call;
 use crate::memories::{Memories, Record, IDLE};
 use crate::numbers::{Numbers, Sort, ROUNDS};
+use crate::rank::first_ranked;
 use crate::refusal::Refusal;
 use crate::rules;
 
@@ -44,14 +45,14 @@ impl Plan {
         if slot == numbers.slots {
             return Err(Refusal::LogFull);
         }
-        let pending = lit.iter().filter_map(|&who| memories.smallest_pending(numbers, who, slot));
-        let tag = pending.min().ok_or(Refusal::NothingPending)?;
+        let pending = lit.iter().filter_map(|&who| memories.first_pending(numbers, who));
+        let tag = first_ranked(pending).ok_or(Refusal::NothingPending)?;
         let lacks = |who: &usize| !memories.holds(numbers, *who, tag);
         let lacking = lit.iter().copied().filter(lacks).collect();
         Ok(Plan { lit, lacking, slot, tag })
     }
 
-    /// "It relays the smallest tag pending at any lit controller to the lit ones that lack it".
+    /// "It relays" the first-ranked "tag pending at any lit controller to the lit ones that lack it".
     pub fn relays(&self) -> impl Iterator<Item = Call> + '_ {
         self.lacking.iter().map(|&who| Call::Relay { who, tag: self.tag })
     }

@@ -2,11 +2,13 @@
 
 use crate::memories::{bit, Memories, Record, IDLE, ONE, STATE, UNDECIDED, VOTE, ZERO};
 use crate::numbers::{Message, Numbers, Sort, RECORDS};
+use crate::orders::Orders;
 use crate::random::Random;
+use crate::rank::{first_ranked, URGENT};
 
 pub type Damage = fn(&mut Random, &Numbers, &mut Memories);
 
-pub const DAMAGES: [(&str, Damage); 41] = [
+pub const DAMAGES: [(&str, Damage); 42] = [
     ("mask bits of n and above, holders", |random, numbers, memories| {
         holders(numbers, memories).iter_mut().for_each(|mask| *mask |= bits_above(random, numbers));
     }),
@@ -43,7 +45,7 @@ pub const DAMAGES: [(&str, Damage); 41] = [
     }),
     ("notices that differ", |random, numbers, memories| {
         mark_notices(numbers, memories, || random.word() as u16 | random.word() as u16);
-        scatter(random, logs(numbers, memories), |random| random.below(4) as u64);
+        scatter(random, logs(numbers, memories), |random| small_tag(random, 4));
         for _ in 0..numbers.n.div_ceil(2) {
             let slot = random.between(1, numbers.slots) as u16;
             spoil(random, numbers, memories, |record| Record { round: IDLE, slot, ..record });
@@ -56,17 +58,17 @@ pub const DAMAGES: [(&str, Damage); 41] = [
         spoil(random, numbers, memories, |record| Record { round: IDLE, slot, ..record });
     }),
     ("closed slots taken back", |random, numbers, memories| {
-        scatter(random, logs(numbers, memories), |random| random.below(8) as u64);
+        scatter(random, logs(numbers, memories), |random| small_tag(random, 8));
         spoil(random, numbers, memories, |record| Record { slot: 0, ..record });
     }),
     ("proposals taken back", |random, numbers, memories| {
         scatter(random, proposals(numbers, memories), |_| 0);
     }),
     ("other proposals", |random, numbers, memories| {
-        scatter(random, proposals(numbers, memories), |random| random.below(4) as u64);
+        scatter(random, proposals(numbers, memories), |random| small_tag(random, 4));
     }),
     ("junk in logs", |random, numbers, memories| {
-        scatter(random, logs(numbers, memories), |random| random.below(8) as u64);
+        scatter(random, logs(numbers, memories), |random| small_tag(random, 8));
     }),
     ("junk in the strip", |random, _, memories| {
         scatter(random, &mut memories.strip, |random| random.word() as u8)
@@ -74,6 +76,9 @@ pub const DAMAGES: [(&str, Damage); 41] = [
     ("tags of 0", |random, numbers, memories| scatter(random, tags(numbers, memories), |_| 0)),
     ("tags known twice", |random, numbers, memories| {
         scatter(random, tags(numbers, memories), |random| 1 + random.below(2) as u64);
+    }),
+    ("tags urgent that were not, and the other way", |random, numbers, memories| {
+        tags(numbers, memories).iter_mut().filter(|_| random.one_in(2)).for_each(|tag| *tag ^= URGENT);
     }),
     ("another count of known tags", |random, numbers, memories| {
         set_known(memories, random.below(numbers.room + 1));
@@ -201,8 +206,8 @@ pub const LEVEL_DAMAGES: [(&str, Damage); 13] = [
     }),
     ("the conductor's tag in some logs", |random, numbers, memories| {
         let (lit, slot) = (memories.lit(numbers), level_slot(numbers, memories).max(1));
-        let pending = lit.iter().filter_map(|&who| memories.smallest_pending(numbers, who, slot));
-        let tag = pending.min().unwrap_or(1);
+        let pending = lit.iter().filter_map(|&who| memories.first_pending(numbers, who));
+        let tag = first_ranked(pending).unwrap_or(1);
         for who in lit {
             memories.set_record(who, Record { slot: slot as u16, ..Record::default() });
             if random.one_in(3) {
@@ -324,6 +329,12 @@ fn send_one(random: &mut Random, numbers: &Numbers, memories: &mut Memories, slo
             memories.set_record(sender, Record { round: IDLE, slot: slot as u16 + 1, ..record });
         }
     }
+}
+
+/// A tag of a low number, urgent or not, or none.
+fn small_tag(random: &mut Random, end: usize) -> u64 {
+    let number = random.below(end);
+    Orders::SMALL.tag(random, number)
 }
 
 /// Draws some of the cells anew.

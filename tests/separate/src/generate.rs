@@ -8,16 +8,18 @@ use crate::memories::{Memories, FIND, IDLE};
 use crate::numbers::{
     Message, Numbers, Sort, MOST_PHASES, MOST_REPLICAS, MOST_ROOM, MOST_SLOTS, ROUNDS, USUAL_PHASES,
 };
+use crate::orders::Orders;
 use crate::random::Random;
+use crate::rank::URGENT;
 use crate::rules;
 use crate::script::{order, Script};
 use crate::step_file::{body_length, write_record, REHEARSAL_BYTES};
 
 /// What differs from one session to the next, so that agreement, quarrel, crashes and stragglers all occur.
 pub struct Habits {
-    /// How many different orders are about, and an odd number that spreads their tags over 64 bits.
+    /// How many different orders are about, and what they are like.
     tags: usize,
-    spread: u64,
+    orders: Orders,
     /// A bare majority of the replicas has one order and the others another: views differ most.
     camps: bool,
     /// Replicas advance as soon as a quorum is heard.
@@ -43,7 +45,7 @@ impl Habits {
     pub fn draw(random: &mut Random, n: usize) -> Habits {
         Habits {
             tags: random.pick(&[1, 2, 3, 5, 12, 300]),
-            spread: random.pick(&[1, (1 << 32) + 1, 0x9e37_79b9_7f4a_7c15]),
+            orders: Orders::draw(random),
             camps: random.one_in(2),
             hasty: random.one_in(2),
             crash_odds: random.pick(&[50, 500, usize::MAX, usize::MAX]),
@@ -64,9 +66,9 @@ impl Habits {
     }
 
     fn tag(&self, random: &mut Random, numbers: &Numbers, who: usize) -> u64 {
-        let drawn = random.below(self.tags) as u64;
-        let camp = u64::from(self.camps && who >= numbers.majority());
-        (1 + 2 * drawn + camp).wrapping_mul(self.spread)
+        let drawn = random.below(self.tags);
+        let camp = usize::from(self.camps && who >= numbers.majority());
+        self.orders.tag(random, 1 + 2 * drawn + camp)
     }
 }
 
@@ -334,7 +336,7 @@ pub fn left_behind_session(random: &mut Random, most: &Numbers) -> Vec<u8> {
     let n = random.between(3, most.n);
     let (slots, phases) = (random.between(1, most.slots.min(4)), random.between(1, most.phases.min(4)));
     let mut script = Script::open(&Numbers { n, f: (n - 1) / 2, slots, phases, room: slots + 1 });
-    script.share_in_camps();
+    script.share_in_camps(random.pick(&[[1, 2], [1, URGENT + 1], [URGENT + 1, 1], [URGENT, u64::MAX]]));
     script.leave_in(random.between(usize::from(IDLE), usize::from(FIND)) as u16);
     let camp = script.camp();
     script.go_on(camp.clone(), &[Sort::Vote]);

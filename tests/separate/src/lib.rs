@@ -1,4 +1,4 @@
-//! Document 01's order log with requests 1 to 4 of document 02, written from the documents and apart from the library, and
+//! Document 01's order log with requests 1 to 5 of document 02, written from the documents and apart from the library, and
 //! what compares the two: by whole step files (the program `sessions`), by direct calls on ordinary and damaged memories
 //! (`calls`), and in time (`bench`).
 
@@ -22,12 +22,15 @@ pub mod memories;
 pub mod notices;
 pub mod numbers;
 pub mod options;
+pub mod orders;
 pub mod phases;
 pub mod racks;
 pub mod random;
+pub mod rank;
 pub mod refusal;
 pub mod rules;
 pub mod script;
 pub mod step_file;
 pub mod strips;
 pub mod tally;
+pub mod urgent;

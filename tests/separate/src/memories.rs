@@ -1,6 +1,7 @@
 //! The lent memories, in the layout of docs/TABLES.md, and how the rules read them.
 
 use crate::numbers::{Message, Numbers, Sort, RECORDS};
+use crate::rank::first_ranked;
 
 pub const IDLE: u16 = 0;
 pub const EXCHANGE: u16 = 1;
@@ -122,6 +123,11 @@ impl Memories {
         self.records().get(replica).map(|&words| Record::from(words))
     }
 
+    /// The slots that a replica has closed, and so its current slot.
+    pub fn slot(&self, replica: usize) -> usize {
+        self.record(replica).map_or(0, |record| usize::from(record.slot))
+    }
+
     /// Those of the run's replicas that have not crashed.
     pub fn lit(&self, numbers: &Numbers) -> Vec<usize> {
         let runs = |replica: &usize| self.record(*replica).is_some_and(|record| record.crashed == 0);
@@ -170,10 +176,15 @@ impl Memories {
     }
 
     /// Pending: "tags that the controller holds and that are in none of its closed slots." Tags of 0 are passed over.
-    pub fn smallest_pending(&self, numbers: &Numbers, replica: usize, closed: usize) -> Option<u64> {
-        let log = self.log(numbers, replica, closed);
-        let held = self.known_places(numbers).filter(|&(_, holders)| holders & bit(replica) != 0);
-        held.map(|(tag, _)| tag).filter(|tag| *tag != 0 && !log.contains(tag)).min()
+    pub fn pending(&self, numbers: &Numbers, replica: usize) -> impl Iterator<Item = u64> + '_ {
+        let log = self.log(numbers, replica, self.slot(replica));
+        let held = self.known_places(numbers).filter(move |&(_, holders)| holders & bit(replica) != 0);
+        held.map(|(tag, _)| tag).filter(move |tag| *tag != 0 && !log.contains(tag))
+    }
+
+    /// "Begin and the conductor now take the first-ranked tag".
+    pub fn first_pending(&self, numbers: &Numbers, replica: usize) -> Option<u64> {
+        first_ranked(self.pending(numbers, replica))
     }
 
     pub fn was_sent(&self, numbers: &Numbers, message: Message, sender: usize) -> bool {

@@ -5,6 +5,7 @@ use crate::memories::{Memories, EXCHANGE, FIND, IDLE, STATE, VOTE};
 use crate::numbers::{Message, Numbers, Sort};
 use crate::refusal::Refusal;
 use crate::rules::{Advanced, Ran, Stop};
+use crate::tally::{occurred, Facts};
 
 /// What a run can meet.
 pub const EVENTS: [&str; 17] = [
@@ -46,7 +47,7 @@ pub fn met(
     memories: &Memories,
 ) -> Vec<&'static str> {
     let scene = Scene { numbers, memories };
-    let facts = match (*call, *result) {
+    occurred(match (*call, *result) {
         (Call::Hear { receiver, sender, sort: NOTICE, slot, .. }, Ok(_)) => {
             scene.heard(receiver, sender, slot)
         }
@@ -59,12 +60,8 @@ pub fn met(
         (Call::Advance { who }, Err(refusal)) => scene.not_advanced(who, refusal),
         (Call::RunOn { who }, Ok(Done::RanOn(ran))) => scene.ran_on(who, ran),
         _ => Vec::new(),
-    };
-    facts.into_iter().filter(|(_, holds)| *holds).map(|(event, _)| event).collect()
+    })
 }
-
-/// Events, each with whether it occurred.
-type Facts = Vec<(&'static str, bool)>;
 
 /// The memories after a call.
 struct Scene<'a> {
@@ -78,7 +75,7 @@ fn notice(slot: usize) -> Message {
 
 impl Scene<'_> {
     fn slot(&self, replica: usize) -> usize {
-        self.memories.record(replica).map_or(0, |record| usize::from(record.slot))
+        self.memories.slot(replica)
     }
 
     fn entry(&self, replica: usize, slot: usize) -> u64 {

@@ -6,6 +6,7 @@ use crate::memories::Memories;
 use crate::numbers::{Numbers, Sort};
 use crate::refusal::Refusal;
 use crate::rules::Advanced;
+use crate::tally::occurred;
 
 pub const EVENTS: [&str; 8] = [
     "opened with phases 0",
@@ -26,7 +27,7 @@ pub fn met(
     memories: &Memories,
 ) -> Vec<&'static str> {
     let in_phase = |who| memories.record(who).map_or(0, |record| usize::from(record.phase));
-    let facts = match (*call, *result) {
+    occurred(match (*call, *result) {
         (Call::Open { plan, .. }, Ok(_)) => {
             vec![("opened with phases 0", plan.phases == 0), ("opened with 16 phases", plan.phases == 16)]
         }
@@ -47,6 +48,5 @@ pub fn met(
             vec![("refused 16 for phase 17 of 16", beyond), ("refused 17 for phase 16 of 16", last)]
         }
         _ => Vec::new(),
-    };
-    facts.into_iter().filter(|(_, holds)| *holds).map(|(event, _)| event).collect()
+    })
 }

@@ -2,6 +2,7 @@
 
 use crate::coin::PATTERN;
 use crate::numbers::{Numbers, Sort, ROUNDS};
+use crate::orders::Orders;
 use crate::random::Random;
 use crate::script::{order, Script};
 
@@ -82,9 +83,10 @@ pub fn drawn_rack(random: &mut Random, plan: &Numbers) -> (Vec<&'static str>, Sc
 
 /// One to three orders, each held by one, some or all of the lit replicas.
 fn hand_out(random: &mut Random, script: &mut Script) {
-    let (lit, spread) = (script.lit(), random.pick(&[1, (1 << 32) + 1, 0x9e37_79b9_7f4a_7c15]));
+    let (lit, orders) = (script.lit(), Orders::draw(random));
     for _ in 0..random.between(1, 3) {
-        let tag = u64::wrapping_mul(1 + random.below(12) as u64, spread);
+        let number = random.between(1, 12);
+        let tag = orders.tag(random, number);
         let holders = match random.below(3) {
             0 => lit.clone(),
             1 => lit.iter().copied().filter(|_| random.one_in(2)).collect(),

@@ -1,5 +1,5 @@
-//! The calls of document 01 over lent memories, with requests 1 and 2 of document 02; `conductor` has request 3's.
-//! A refused call changes nothing.
+//! The calls of document 01 over lent memories, with requests 1 and 2 of document 02; `conductor` has request 3's, and `rank`
+//! says which tag request 5 takes. A refused call changes nothing.
 
 use crate::coin::{self, PATTERN};
 use crate::memories::{bit, Memories, Record, EXCHANGE, FIND, IDLE, ONE, STATE, UNDECIDED, VOTE, ZERO};
@@ -134,7 +134,7 @@ pub fn relay(numbers: &Numbers, who: usize, tag: u64, memories: &mut Memories) -
     Ok(())
 }
 
-/// "an idle controller proposes its smallest pending tag and enters the exchange." Answers that tag.
+/// "an idle controller proposes" the first-ranked pending tag "and enters the exchange." Answers that tag.
 pub fn begin(numbers: &Numbers, who: usize, memories: &mut Memories) -> Result<u64, Refusal> {
     let record = admit(numbers, &[who], memories)?;
     if record.round != IDLE {
@@ -144,7 +144,7 @@ pub fn begin(numbers: &Numbers, who: usize, memories: &mut Memories) -> Result<u
     if slot == numbers.slots {
         return Err(Refusal::LogFull);
     }
-    let tag = memories.smallest_pending(numbers, who, slot).ok_or(Refusal::NothingPending)?;
+    let tag = memories.first_pending(numbers, who).ok_or(Refusal::NothingPending)?;
     memories.send_proposal(numbers, slot, who, tag);
     memories.set_record(who, Record { round: EXCHANGE, phase: 0, ..record });
     Ok(tag)

@@ -79,7 +79,7 @@ impl Script {
     }
 
     pub fn slot(&self, who: usize) -> usize {
-        self.memories.record(who).map_or(0, |record| usize::from(record.slot))
+        self.memories.slot(who)
     }
 
     /// Submitted at the first of these replicas and relayed to the others.
@@ -89,11 +89,11 @@ impl Script {
         holders.for_each(|who| self.step(Call::Relay { who, tag }));
     }
 
-    /// A bare majority proposes one tag and the others another. Both are older than any other tag.
-    pub fn share_in_camps(&mut self) {
+    /// A bare majority proposes one tag and the others another, if both rank before any other tag.
+    pub fn share_in_camps(&mut self, tags: [u64; 2]) {
         let Range { start, end } = self.camp();
-        self.share(1, start..end);
-        self.share(2, end..self.numbers.n);
+        self.share(tags[0], start..end);
+        self.share(tags[1], end..self.numbers.n);
     }
 
     /// Each replica proposes another tag.

@@ -2,6 +2,7 @@
 //! counts it.
 
 use crate::coin::PATTERN;
+use crate::tally::occurred;
 
 pub const EVENTS: [&str; 6] = [
     "strip: a row goes round the table's end",
@@ -16,15 +17,14 @@ pub const EVENTS: [&str; 6] = [
 pub fn met(slots: usize, phases: usize, start: usize) -> Vec<&'static str> {
     let begins: Vec<usize> = (0..slots).map(|slot| (start + 32 * slot) % PATTERN).collect();
     let reaches = start + 32 * (slots - 1) + phases - 1;
-    let facts = [
+    occurred([
         ("strip: a row goes round the table's end", begins.iter().any(|entry| entry + phases > PATTERN)),
         ("strip: ends on the last entry, never gone round", reaches == PATTERN - 1),
         ("strip: a row begins at a byte's first entry", begins.iter().any(|entry| entry % 8 == 0)),
         ("strip: a row begins within a byte", begins.iter().any(|entry| entry % 8 != 0)),
         ("strip: rows of fewer than 8 phases", phases < 8),
         ("strip: rows of more than 8 phases", phases > 8),
-    ];
-    facts.into_iter().filter(|(_, holds)| *holds).map(|(event, _)| event).collect()
+    ])
 }
 
 #[cfg(test)]

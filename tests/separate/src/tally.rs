@@ -7,10 +7,11 @@ use crate::numbers::{Numbers, Sort};
 use crate::phases;
 use crate::refusal::Refusal;
 use crate::rules::{Advanced, Ran, Stop, Submitted};
+use crate::urgent;
 use std::collections::BTreeMap;
 use std::process::ExitCode;
 
-/// What a run can meet beside refusals, notices and long slots.
+/// What a run can meet beside refusals, notices, long slots and urgent tags.
 pub const EVENTS: [&str; 33] = [
     "opened",
     "submitted new",
@@ -46,6 +47,13 @@ pub const EVENTS: [&str; 33] = [
     "run on stopped at 14",
     "run on stopped at 15",
 ];
+
+/// Events, each with whether it occurred.
+pub type Facts = Vec<(&'static str, bool)>;
+
+pub fn occurred(facts: impl IntoIterator<Item = (&'static str, bool)>) -> Vec<&'static str> {
+    facts.into_iter().filter(|(_, holds)| *holds).map(|(event, _)| event).collect()
+}
 
 /// How often each thing occurred, under its name.
 pub struct Tally {
@@ -86,9 +94,8 @@ impl Tally {
         result: &Result<Done, Refusal>,
         memories: &Memories,
     ) {
-        let noticed = notices::met(call, numbers, result, memories);
-        for event in noticed.into_iter().chain(phases::met(call, numbers, result, memories)) {
-            self.note(event);
+        for met in [notices::met, phases::met, urgent::met] {
+            met(call, numbers, result, memories).into_iter().for_each(|event| self.note(event));
         }
         if let Ok(done) = result {
             self.note_done(call, done, memories);

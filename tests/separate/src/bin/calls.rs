@@ -23,11 +23,13 @@ use separate::options::number;
 use separate::phases;
 use separate::racks::{drawn_rack, LEADS};
 use separate::random::Random;
+use separate::rank::{RANKED, URGENT};
 use separate::refusal::Refusal;
 use separate::rules::{self, Advanced};
 use separate::script::{order, Script};
 use separate::strips;
 use separate::tally::{Tally, EVENTS};
+use separate::urgent;
 use std::process::ExitCode;
 
 /// Which refusals each call can give; 0 is accepted.
@@ -63,7 +65,8 @@ fn main() -> ExitCode {
         .and_then(|()| compare_left_behind())
         .and_then(|()| compare_phase_limits())
         .and_then(|()| compare_busy_days(&mut tally))
-        .and_then(|()| compare_conductor());
+        .and_then(|()| compare_conductor())
+        .and_then(|()| compare_ranks());
     if let Err(difference) = first {
         println!("difference: {difference}");
         return ExitCode::FAILURE;
@@ -94,7 +97,7 @@ fn expected() -> impl Iterator<Item = String> {
     let conducted = conducted::EVENTS.into_iter().chain(conducted::EVENTS_OF_DAMAGE).chain(CONDUCTED);
     let events =
         EVENTS.into_iter().chain(noticed).chain(phases::EVENTS).chain(strips::EVENTS).chain(conducted);
-    let events = events.chain(others).chain(UNMARKED).map(str::to_string);
+    let events = events.chain(urgent::EVENTS).chain(others).chain(UNMARKED).map(str::to_string);
     refusals.chain(events).chain(damages).chain(racks)
 }
 
@@ -213,22 +216,43 @@ fn compare_busy_days(tally: &mut Tally) -> Result<(), Difference> {
 }
 
 /// Request 3's counts, asked of the library: three slots with orders that the highest lit replica alone holds, of
-/// which the smallest is to come first. All n are lit, a quorum of them, or some number between.
+/// which the first-ranked is to come first. All n are lit, a quorum of them, or some number between.
 fn compare_conductor() -> Result<(), Difference> {
     let racks = [(1, 0, 1, 4), (3, 1, 3, 30), (3, 1, 2, 14), (5, 2, 5, 80), (5, 2, 4, 52), (15, 7, 15, 690)];
     for (n, f, lit, steps) in racks {
         let mut script = Script::open(&Numbers { n, f, slots: 3, phases: 1, room: 3 });
         script.crash(lit..n);
-        for second in [3, 1, 2] {
-            script.share(order(second), [lit - 1]);
+        for tag in [order(3), order(1), URGENT + order(2)] {
+            script.share(tag, [lit - 1]);
         }
         let numbers = script.numbers;
         let answers = [(); 4].map(|()| library::make(&Call::Conduct, &numbers, &mut script.memories));
         let conducted = Answer { conducted: Conducted { steps, relays: lit - 1 }, ..Answer::default() };
         let full = Answer { refusal: Refusal::LogFull.number(), ..Answer::default() };
         let log = script.memories.log(&numbers, 0, 3);
-        if answers != [conducted, conducted, conducted, full] || log != [1, 2, 3].map(order) {
+        if answers != [conducted, conducted, conducted, full]
+            || log != [URGENT + order(2), order(1), order(3)]
+        {
             return Err(format!("conductor, {lit} of {n} lit: {answers:?}, {log:?}"));
+        }
+    }
+    Ok(())
+}
+
+/// C10 and request 5's ranks, asked of the library: which of two tags is proposed, whichever was submitted first, and that
+/// the other follows in the next slot.
+fn compare_ranks() -> Result<(), Difference> {
+    let steps = [Call::Begin { who: 0 }, Call::RunOn { who: 0 }, Call::Begin { who: 0 }];
+    for (first, other) in RANKED {
+        for tags in [[first, other], [other, first]] {
+            let mut script = Script::open(&Numbers { n: 1, f: 0, slots: 2, phases: 1, room: 2 });
+            tags.into_iter().for_each(|tag| script.share(tag, [0]));
+            let Script { numbers, mut memories, .. } = script;
+            let answers = steps.map(|step| library::make(&step, &numbers, &mut memories).refusal);
+            let proposed = [0, 1].map(|slot| memories.orders[numbers.proposal_cell(slot, 0)]);
+            if (answers, proposed) != ([0; 3], [first, other]) {
+                return Err(format!("pending {tags:?}: answers {answers:?}, {proposed:?} are proposed"));
+            }
         }
     }
     Ok(())

@@ -17,6 +17,7 @@ use separate::random::Random;
 use separate::refusal::Refusal;
 use separate::step_file::{play_seen, report, REHEARSAL, REHEARSAL_BYTES};
 use separate::tally::{Tally, EVENTS};
+use separate::urgent;
 use std::io::{self, Write};
 use std::process::{Command, ExitCode, Output, Stdio};
 use std::thread;
@@ -52,8 +53,8 @@ fn main() -> ExitCode {
 /// A step file meets every refusal but 3: its opening leaves no record spoiled.
 fn expected() -> impl Iterator<Item = String> {
     let refusals = (1..=21).filter(|&refusal| refusal != 3).map(|refusal| format!("refused {refusal}"));
-    let events = EVENTS.into_iter().chain(notices::EVENTS).chain(phases::EVENTS).chain(FILES);
-    refusals.chain(events.map(str::to_string))
+    let events = EVENTS.into_iter().chain(notices::EVENTS).chain(phases::EVENTS).chain(urgent::EVENTS);
+    refusals.chain(events.chain(FILES).map(str::to_string))
 }
 
 fn compare_session(program: &str, seed: u64, tally: &mut Tally) -> Result<(), Difference> {

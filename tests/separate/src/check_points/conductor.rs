@@ -3,6 +3,7 @@
 use crate::conductor::{conduct, Conducted};
 use crate::memories::{Record, EXCHANGE, IDLE, ONE, UNDECIDED};
 use crate::numbers::{Message, Numbers, Sort, ROUNDS};
+use crate::rank::URGENT;
 use crate::refusal::Refusal;
 use crate::script::Script;
 
@@ -106,7 +107,7 @@ fn the_same_cells_as_the_steps() {
 }
 
 #[test]
-fn the_smallest_tag_pending_at_any_lit_one() {
+fn the_first_ranked_tag_pending_at_any_lit_one() {
     let mut script = run_of(3, 0, &[(9, 0), (6, 1), (5, 2), (8, 1)]);
     assert_eq!(conducted(&mut script), counts(30, 2));
     assert_eq!(log(&script, 0), [5]);
@@ -114,6 +115,16 @@ fn the_smallest_tag_pending_at_any_lit_one() {
     script.crash([2]);
     assert_eq!(conducted(&mut script), counts(14, 1));
     assert_eq!(log(&script, 0), [6]);
+}
+
+/// One lit replica alone has an urgent tag, and others have smaller numbers; then the urgent ones are a crashed one's.
+#[test]
+fn an_urgent_tag_of_one_lit_one_and_of_a_crashed_one() {
+    let mut script = run_of(3, 1, &[(1, 0), (URGENT + 9, 1), (2, 2), (URGENT + 8, 2), (URGENT, 2)]);
+    script.crash([2]);
+    assert_eq!([(); 2].map(|()| conducted(&mut script)), [counts(14, 1); 2]);
+    assert_eq!((log(&script, 0), log(&script, 1)), (&[URGENT + 9, 1][..], &[URGENT + 9, 1][..]));
+    assert_refused(&mut script, Refusal::NothingPending);
 }
 
 /// Not one that is in the log already; and those who hold it need no relay.
