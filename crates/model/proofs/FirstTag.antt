@@ -3,7 +3,7 @@
 use Prim.Native.Nat.{ℕ, _<_}
 use native.Mathlib.Omega.{arith}
 use native.Mathlib.Decide.{ℕ-discrete}
-use mathlib.Core.Bool.{Bool, true, false, not, _&&_, _||_, true≢false}
+use mathlib.Core.Bool.{Bool, true, false, not, _&&_, _||_, true≢false, Bool-discrete}
 use mathlib.Core.List.{List, [], _∷_}
 use mathlib.Core.Logic.{_⊎_, inl, inr, ⊎-elim, _≢_}
 use mathlib.Core.Path.{_≡_, refl, sym, _∙_, ap, subst}
@@ -11,7 +11,7 @@ use lib.Dec.{ltb, eqb}
 use borrow.Author.Tests.{ltb-true, ltb-false, lt-ltb, le-ltb, eqb-true, eqb-false, eq-eqb, ne-eqb, not-true}
 use Rattle.model.specs.Tests.{if, some, listed}
 use Rattle.model.specs.Rules.{urgent, ahead, earlier, first-of}
-use Rattle.model.proofs.Cases.{clash, either, alike-or-not, and-true, and-both, or-true, or-false, or-left, or-right, if-ind, some-here, some-there}
+use Rattle.model.proofs.Cases.{clash, either, and-true, and-both, or-true, or-false, or-left, or-right, if-ind, some-here, some-there}
 
 -- ---- the order
 
@@ -39,17 +39,22 @@ pub ahead-itself : (x : ℕ) → ahead x x ≡ false
 ahead-itself x = alike-ahead x x refl ∙ le-ltb x x (omega arith)
 
 pub ahead-apart : (x y : ℕ) → ahead x y ≡ false → ahead y x ≡ false → x ≡ y
-ahead-apart x y a b = alike-or-not (urgent x) (urgent y)
-    (λ same. omega (arith, ltb-false x y (sym (alike-ahead x y same) ∙ a), ltb-false y x (sym (alike-ahead y x (sym same)) ∙ b)))
-    (λ other. absurd (other (sym (unlike-ahead x y other) ∙ a ∙ sym b ∙ unlike-ahead y x (λ e. other (sym e)))))
+ahead-apart x y a b = go (Bool-discrete (urgent x) (urgent y))
+  where
+    go : Dec (urgent x ≡ urgent y) → x ≡ y
+    go (yes same) = omega (arith, ltb-false x y (sym (alike-ahead x y same) ∙ a), ltb-false y x (sym (alike-ahead y x (sym same)) ∙ b))
+    go (no other) = absurd (other (sym (unlike-ahead x y other) ∙ a ∙ sym b ∙ unlike-ahead y x (λ e. other (sym e))))
 
 -- which of the two made it so
 abbrev pub Ahead : ℕ → ℕ → Type 0
 Ahead x y = ((urgent x ≡ true) × (urgent y ≡ false)) ⊎ ((urgent x ≡ urgent y) × (x < y))
 
 ahead-is : (x y : ℕ) → ahead x y ≡ true → Ahead x y
-ahead-is x y e = alike-or-not (urgent x) (urgent y) (λ same. inr (same, ltb-true x y (sym (alike-ahead x y same) ∙ e)))
-    (λ other. let u = sym (unlike-ahead x y other) ∙ e in inl (u, either (urgent y) (λ v. absurd (other (u ∙ sym v))) (λ v. v)))
+ahead-is x y e = go (Bool-discrete (urgent x) (urgent y))
+  where
+    go : Dec (urgent x ≡ urgent y) → Ahead x y
+    go (yes same) = inr (same, ltb-true x y (sym (alike-ahead x y same) ∙ e))
+    go (no other) = let u = sym (unlike-ahead x y other) ∙ e in inl (u, either (urgent y) (λ v. absurd (other (u ∙ sym v))) (λ v. v))
 
 pub ahead-so : (x y : ℕ) → Ahead x y → ahead x y ≡ true
 ahead-so x y (inl (u, v)) = unlike-ahead x y (λ same. clash (sym v ∙ sym same ∙ u)) ∙ u
