@@ -13,12 +13,8 @@ use Rattle.model.specs.Limits.{most-phases}
 use Rattle.model.specs.Rules.{phase-in}
 use Rattle.tables.specs.Layout.{row, slot-row, message-rows, ballot-rows, heard-base, heard-cell}
 use Rattle.tables.specs.Layout.{proposals-base, proposal-cell, logs-base, ballot-cell}
-use Rattle.tables.specs.Bounds.{Bounds, ballot-rows-few, ballots-few, message-rows-few, words-few, orders-few}
+use Rattle.tables.specs.Bounds.{Bounds, most-cells, ballot-rows-few, ballots-few, message-rows-few, words-few, orders-few}
 use Rattle.tables.specs.Addresses.{Within, phase-low, row-low, spot-in, proposal-in, log-in-range}
-
--- more than any address
-abbrev large : ℕ
-large = 65535
 
 -- every number on the way to (s * rows + q) * n + d, and from there to the cell behind a base
 record Way (base rows n s q d : ℕ) : Type 0 where
@@ -29,7 +25,7 @@ record Way (base rows n s q d : ℕ) : Type 0 where
   pub end : Fits w64 (base + ((s * rows + q) * n + d))
 
 -- they fit where the last cell of the section is small
-way : (base slots rows n s q d : ℕ) → s < slots → q < rows → d < n → slots * rows ≤ large → base + slots * rows * n ≤ large → Way base rows n s q d
+way : (base slots rows n s q d : ℕ) → s < slots → q < rows → d < n → slots * rows ≤ most-cells → base + slots * rows * n ≤ most-cells → Way base rows n s q d
 way base slots rows n s q d hs hq hd a b =
     let l : s * rows + q < slots * rows = digits-lt hs hq in
     let c = spot-in slots rows n s q d hs hq hd in
@@ -41,7 +37,7 @@ module _ (N : Numbers) {so : Sort} {s p d : ℕ} (m : Bounds N × Within N so s 
     to-mark : Way b k (N .n) l q d
     to-mark = let w = m .1 in
         rw (eb, el, ek, eq) (way _ (N .slots) _ (N .n) s (row so p) d (w .slot) (row-low N so p (w .phase)) (w .sender)
-        (le-trans (message-rows-few N (m .0)) (omega arith)) (le-trans (words-few N (m .0)) (omega arith)))
+        (le-trans (message-rows-few N (m .0)) (omega arith)) (words-few N (m .0)))
 
     pub mark-slot : Fits w64 (l * k)
     mark-slot = to-mark .slot
