@@ -2,24 +2,24 @@
 use mathlib.Core.Path.{_≡_, refl, sym, _∙_, ap, ap₂, subst}
 use mathlib.Core.Bool.{Bool, true, false, not, _&&_, _||_}
 use mathlib.Core.List.{List, [], _∷_}
-use mathlib.Core.Logic.{⊎-elim}
+use mathlib.Core.Logic.{_≢_, ⊎-elim}
 use Prim.Native.Nat.{ℕ, zero, suc, _+_, _^_, _<_, _≤_}
 use native.Mathlib.Omega.{arith}
+use native.Mathlib.Decide.{ℕ-discrete}
 use native.Mathlib.Numerals.{add-one}
-use native.Mathlib.Nat.{add-zero}
 use lib.Dec.{leb, ltb, eqb, leb·suc-suc}
 use lib.ListN.{length, getD, set, take, drop}
 use lib.Seq.{drop-cons, getD-take, length-take-le, drop-length}
-use borrow.Author.Tests.{eq-eqb, ne-eqb, eqb-false, lt-ltb, le-ltb}
+use borrow.Author.Tests.{eq-eqb, ne-eqb, eqb-false, ltb-true, ltb-false, lt-ltb, le-ltb}
 use Rattle.model.specs.declared.Numbers.{Numbers}
 use Rattle.model.specs.Tests.{if, some, listed}
 use Rattle.model.proofs.Branches.{told, if-true, if-false}
-use Rattle.model.proofs.Cases.{clash, if-ind}
+use Rattle.model.proofs.Cases.{clash, either, if-ind}
 use Rattle.tables.specs.Layout.{has-bit, with-bit, known-cell, known-in, holders-base}
 use Rattle.tables.specs.View.{held-from}
 use Rattle.tables.specs.Write.{place-in, orders-held, words-held}
 use Rattle.model.proofs.Counting.{any-more, any-here, any-nowhere}
-use Rattle.known.specs.Room.{Room, Storable, Sought}
+use Rattle.known.specs.Room.{Room, Storable, Absent, FirstPlace}
 
 -- the known tags stand in their memory
 pub in-tags : {N : Numbers} {ws os : List ℕ} → Room N ws os → known-in ws ≤ length os
@@ -53,6 +53,42 @@ not-before x [] j h = absurd (omega arith)
 not-before x (y ∷ ys) zero h = ne-eqb y x (λ e. eqb-false x y (past _ h .0) (sym e))
 not-before x (y ∷ ys) (suc j) h = let l = past _ h .1 in not-before x ys j (omega arith)
 
+-- ---- the search for a cell
+
+-- no cell is looked at yet
+pub absent-none : (cells : List ℕ) (x a : ℕ) → Absent cells x a a
+absent-none cells x a = record { apart = λ j h l. absurd (omega arith) }
+
+-- one cell more does not have it
+pub absent-more : {cells : List ℕ} {x a b : ℕ} → Absent cells x a b → getD cells b 0 ≢ x → Absent cells x a (b + 1)
+absent-more {cells} {x} {a} {b} none ne = record { apart = λ j h l. go j h l (ℕ-discrete j b) }
+  where
+    go : (j : ℕ) → a ≤ j → j < b + 1 → Dec (j ≡ b) → getD cells j 0 ≢ x
+    go j h l (yes e) = subst (λ (j : ℕ). getD cells j 0 ≢ x) (sym e) ne
+    go j h l (no other) = none .apart j h (omega arith)
+
+-- two stretches one behind the other
+pub absent-both : {cells : List ℕ} {x a b c : ℕ} → Absent cells x a b → Absent cells x b c → Absent cells x a c
+absent-both {b = b} none more =
+    record { apart = λ j h l. either (ltb j b) (λ e. none .apart j h (ltb-true j b e)) (λ e. more .apart j (ltb-false j b e) l) }
+
+-- a search that comes to the end
+pub absent-all : {cells : List ℕ} {x a b r : ℕ} → FirstPlace cells x a b r → b ≤ r → Absent cells x a b
+absent-all f past = record { apart = λ j h l. f .absent .apart j h (omega arith) }
+
+-- the first place that a search from the start of a list finds is that of the definition
+place-found : (x : ℕ) (l : List ℕ) (r : ℕ) → FirstPlace l x 0 (length l) r → r ≡ place-in x l
+unfolding place-in if
+place-found x [] r f = let h = f .to in omega arith
+place-found x (y ∷ ys) zero f = rw (eq-eqb x y (sym (f .has (omega arith))))
+place-found x (y ∷ ys) (suc r) f =
+    rw (ne-eqb x y (λ e. f .absent .apart 0 (omega arith) (omega arith) (sym e))) (ap suc (place-found x ys r (record {
+      from = omega arith;
+      to = let h = f .to in omega arith;
+      has = λ l. f .has (omega arith);
+      absent = record { apart = λ j h l. f .absent .apart (suc j) (omega arith) (omega arith) };
+    })))
+
 module _ (ts : List ℕ) (k : ℕ) where
   -- the known tags from place i on
   abbrev pub rest : ℕ → List ℕ
@@ -67,24 +103,16 @@ module _ (ts : List ℕ) (k : ℕ) where
     pub rest-more : (i : ℕ) → i < k → rest i ≡ getD ts i 0 ∷ rest (suc i)
     rest-more i h = drop-cons (take k ts) i 0 (rw (length-take-le k ts l) h) ∙ ap (λ (y : ℕ). y ∷ rest (suc i)) (getD-take k ts i 0 h)
 
+    -- the known tags as a list of their own
+    pub place-is : {x r : ℕ} → FirstPlace ts x 0 k r → r ≡ place-in x (take k ts)
+    place-is {x} {r} f = place-found x (take k ts) r (record {
+      from = f .from;
+      to = rw (length-take-le k ts l) (f .to);
+      has = λ h. let inside = rw (length-take-le k ts l) at h in getD-take k ts r 0 inside ∙ f .has inside;
+      absent = record { apart = λ j h g. let to = f .to in rw (getD-take k ts j 0 (omega arith)) (f .absent .apart j h g) };
+    })
+
     module _ (x : ℕ) where
-      -- ---- the search for its place
-
-      -- it stands at this place
-      pub place-here : (i : ℕ) → i < k → x ≡ getD ts i 0 → Sought ts k x i → i ≡ place-in x (take k ts)
-      unfolding place-in if
-      place-here i h e q = sym (q ∙ ap (λ (r : List ℕ). i + place-in x r) (rest-more i h) ∙ rw (eq-eqb x (getD ts i 0) e) (add-zero i))
-
-      -- it does not: one place further
-      pub place-more : (i : ℕ) → i < k → (x ≡ getD ts i 0 → ⊥) → Sought ts k x i → Sought ts k x (i + 1)
-      unfolding place-in if
-      place-more i h e q = q ∙ ap (λ (r : List ℕ). i + place-in x r) (rest-more i h) ∙ rw (ne-eqb x (getD ts i 0) e, add-one i) (omega arith)
-
-      -- it stands nowhere
-      pub place-none : (i : ℕ) → i ≡ k → Sought ts k x i → i ≡ place-in x (take k ts)
-      unfolding place-in
-      place-none i e q = sym (q ∙ ap (λ (r : List ℕ). i + place-in x r) (ap rest e ∙ rest-none) ∙ add-zero i)
-
       -- ---- what its place tells
 
       -- whether it is listed

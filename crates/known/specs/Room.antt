@@ -1,10 +1,10 @@
 -- What the functions on tags ask, and the replica as the rules of submit, relay and begin read it.
-use Prim.Native.Nat.{ℕ, _+_, _≤_, _<_}
+use Prim.Native.Nat.{ℕ, _≤_, _<_}
 use mathlib.Core.Bool.{true, false}
 use mathlib.Core.List.{List}
-use mathlib.Core.Logic.{_⊎_}
+use mathlib.Core.Logic.{_⊎_, _≢_}
 use mathlib.Core.Path.{_≡_}
-use lib.ListN.{length, take, drop}
+use lib.ListN.{length, getD, take}
 use Rattle.model.specs.declared.Numbers.{Numbers}
 use Rattle.model.specs.declared.Round.{Round}
 use Rattle.model.specs.Tests.{listed}
@@ -12,7 +12,6 @@ use Rattle.model.specs.Rack.{Replica, silence}
 use Rattle.tables.specs.Layout.{known-in, words-need, orders-need}
 use Rattle.tables.specs.Bounds.{Bounds}
 use Rattle.tables.specs.View.{holds, log-in}
-use Rattle.tables.specs.Write.{place-in}
 
 -- the known tags and their holders stand in memories as long as the run needs
 pub record Room (N : Numbers) (ws os : List ℕ) : Type 0 where
@@ -42,6 +41,13 @@ as-holder N c a s ws os = record {
 abbrev pub Storable : Numbers → ℕ → ℕ → List ℕ → Type 0
 Storable N x k ts = (listed x (take k ts) ≡ true) ⊎ (k < N .room)
 
--- a tag does not stand before place i of the known ones
-abbrev pub Sought : List ℕ → ℕ → ℕ → ℕ → Type 0
-Sought ts k x i = place-in x (take k ts) ≡ i + place-in x (drop i (take k ts))
+-- x stands in none of the cells from a on up to b, b not included
+pub record Absent (cells : List ℕ) (x a b : ℕ) : Type 0 where
+  pub apart : (j : ℕ) → a ≤ j → j < b → getD cells j 0 ≢ x
+
+-- the first of these cells that has x, or b
+pub record FirstPlace (cells : List ℕ) (x a b r : ℕ) : Type 0 where
+  pub from : a ≤ r
+  pub to : r ≤ b
+  pub has : r < b → getD cells r 0 ≡ x
+  pub absent : Absent cells x a r

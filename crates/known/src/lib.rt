@@ -11,10 +11,10 @@ ghost use mathlib.Core.Bool.{_&&_};
 ghost use Prim.Native.Nat.{_+_, _<_, _≤_};
 ghost use lib.Dec.{eqb};
 ghost use lib.ListN.{length, take};
-ghost use Rattle.tables.specs.Layout.{mask-bits, has-bit, known-in, holder-cell};
+ghost use Rattle.tables.specs.Layout.{mask-bits, has-bit, known-in};
 ghost use Rattle.tables.specs.View.{held-from};
 ghost use Rattle.tables.specs.Write.{place-in, orders-held, words-held};
-ghost use Rattle.known.specs.Room.{Room, Storable, Sought};
+ghost use Rattle.known.specs.Room.{Room, Storable, FirstPlace};
 
 // "Tag 0 is no order".
 pub fn is_blank(x: u64) -> bool
@@ -23,14 +23,14 @@ pub fn is_blank(x: u64) -> bool
     x == 0
 }
 
-// The first place of a tag among the known ones from a place on, or their count. It does not stand before.
-fn place_from(x: u64, from: usize, known: usize, tags: &[u64]) -> usize
-    requires { ⌜ (known ≤ length (now tags)) × (from ≤ known) × (Sought (now tags) known x from) ⌝ }
-    ensures { λ r. ⌜ r ≡ place-in x (take known (now (tags .entry))) ⌝ }
+// The first cell that has x, of those from a place on up to another, or that other.
+fn next_place(x: u64, from: usize, to: usize, cells: &[u64]) -> usize
+    requires { ⌜ (from ≤ to) × (to ≤ length (now cells)) ⌝ }
+    ensures { λ r. ⌜ FirstPlace (now (cells .entry)) x from to r ⌝ }
 {
     let mut i = from;
-    while i < known {
-        if x == tags[i] {
+    while i < to {
+        if cells[i] == x {
             return i;
         }
         i += 1;
@@ -38,32 +38,39 @@ fn place_from(x: u64, from: usize, known: usize, tags: &[u64]) -> usize
     i
 }
 
-// The first place of a tag among the known ones, or their count. Four places in a turn: submit and relay spend most of their
-// time here.
-pub fn tag_place(x: u64, known: usize, tags: &[u64]) -> usize
-    requires { ⌜ known ≤ length (now tags) ⌝ }
-    ensures { λ r. ⌜ r ≡ place-in x (take known (now (tags .entry))) ⌝ }
+// The same, four cells in a turn: submit, relay and begin spend most of their time here.
+pub fn first_place(x: u64, from: usize, to: usize, cells: &[u64]) -> usize
+    requires { ⌜ (from ≤ to) × (to ≤ length (now cells)) ⌝ }
+    ensures { λ r. ⌜ FirstPlace (now (cells .entry)) x from to r ⌝ }
 {
-    let mut i = 0;
-    while i + 4 <= known {
+    let mut i = from;
+    while i + 4 <= to {
         let second = i + 1;
         let third = second + 1;
         let fourth = third + 1;
-        if x == tags[i] {
+        if cells[i] == x {
             return i;
         }
-        if x == tags[second] {
+        if cells[second] == x {
             return second;
         }
-        if x == tags[third] {
+        if cells[third] == x {
             return third;
         }
-        if x == tags[fourth] {
+        if cells[fourth] == x {
             return fourth;
         }
         i = fourth + 1;
     }
-    place_from(x, i, known, tags)
+    next_place(x, i, to, cells)
+}
+
+// The first place of a tag among the known ones, or their count.
+pub fn tag_place(x: u64, known: usize, tags: &[u64]) -> usize
+    requires { ⌜ known ≤ length (now tags) ⌝ }
+    ensures { λ r. ⌜ r ≡ place-in x (take known (now (tags .entry))) ⌝ }
+{
+    first_place(x, 0, known, tags)
 }
 
 // Whether a place that has this tag and these holders has x, held by `who`.

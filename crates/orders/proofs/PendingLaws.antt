@@ -18,15 +18,15 @@ use Rattle.model.specs.declared.Round.the-variants.{Idle}
 use Rattle.model.specs.Rack.{Replica}
 use Rattle.model.specs.Rules.{urgent, ahead, earlier, first-of, logged, pending, next-tag}
 use Rattle.model.proofs.Branches.{told, if-true, if-false}
-use Rattle.model.proofs.Cases.{either, and-true, and-both, or-true, or-false, or-none, if-ind}
+use Rattle.model.proofs.Cases.{either, and-true, and-both, or-true, or-false, if-ind}
 use Rattle.tables.specs.Layout.{has-bit, known-in, holders-base, holder-cell, log-cell}
 use Rattle.tables.specs.View.{held-from, holds, log-in}
 use Rattle.tables.specs.Addresses.{log-in-range, log-read}
 use Rattle.model.proofs.FirstTag.{alike-ahead, ahead-itself, ahead-apart, ahead-so, behind, not-ahead}
-use Rattle.model.proofs.Counting.{any-none, any-more, any-here, any-place, any-same}
-use Rattle.known.specs.Room.{Acting, as-holder}
+use Rattle.model.proofs.Counting.{any-nowhere, any-here, any-place, any-same}
+use Rattle.known.specs.Room.{Acting, as-holder, FirstPlace}
 use Rattle.orders.specs.Waiting.{logged-from, waits-at}
-use Rattle.known.proofs.TagLaws.{in-tags, rest, rest-none, rest-more}
+use Rattle.known.proofs.TagLaws.{in-tags, rest, rest-none, rest-more, absent-all, absent-both}
 
 -- ---- which of two tags is ahead
 
@@ -88,16 +88,27 @@ module _ (ok : Bool) (y b : ℕ) where
       let behind = sym (ap₂ _||_ n l) ∙ told e (not-true _ q) in
       if-ind (λ (r : ℕ). b ≡ r) (ok && not (eqb y 0)) (λ _. sym (if-false _ _ behind)) (λ _. refl)
 
-  -- it comes ahead and passes
-  pub comes-ahead : {z none l o r : Bool} → z ≡ eqb y 0 → z ≡ false → none ≡ eqb b 0 → l ≡ ahead y b → o ≡ (none || l) → not o ≡ false → r ≡ ok → r ≡ true
-      → y ≡ joined ok y b
-  unfolding earlier if
-  comes-ahead e z n l w q p t = rw (told p t, told e z, sym (ap₂ _||_ n l) ∙ told w (not-false _ q))
+-- a tag passes if its place has the replica's bit and none of the closed slots has it
+module _ (bit logged : Bool) (y b : ℕ) where
+  abbrev pub passes : Bool
+  passes = bit && not logged
 
-  -- it does not pass
-  pub stays-out : {r : Bool} → r ≡ ok → r ≡ false → b ≡ joined ok y b
+  -- the bit is not there
+  pub stays-unheld : {h : Bool} → h ≡ bit → not h ≡ true → b ≡ joined passes y b
   unfolding if
-  stays-out p t = rw (told p t)
+  stays-unheld e q = rw (told e (not-true _ q))
+
+  -- a closed slot has it
+  pub stays-logged : {place closed : ℕ} → ltb place closed ≡ logged → place < closed → b ≡ joined passes y b
+  unfolding if
+  stays-logged e l = rw (told e (lt-ltb _ _ l), and-false-right bit)
+
+  -- it comes ahead and passes
+  pub comes-ahead : {z none l o h : Bool} {place closed : ℕ} → z ≡ eqb y 0 → z ≡ false → none ≡ eqb b 0 → l ≡ ahead y b → o ≡ (none || l) → not o ≡ false
+      → h ≡ bit → not h ≡ false → ltb place closed ≡ logged → closed ≤ place → y ≡ joined passes y b
+  unfolding earlier if
+  comes-ahead e z n l w q held t p g =
+      rw (told held (not-false _ t), told p (le-ltb _ _ g), told e z, sym (ap₂ _||_ n l) ∙ told w (not-false _ q))
 
 -- B is A and one more tag y, if it passes
 module _ {A B : ℕ → Type 0} (ok : Bool) (y : ℕ) (kept : (x : ℕ) → A x → B x) (added : ok ≡ true → B y)
@@ -195,18 +206,26 @@ log-there {N} {c} s acts from low =
     let enough = acts .room .orders in
     omega arith
 
--- no entry is looked at yet, and one more
-pub logged-none : (base : ℕ) (os : List ℕ) (x : ℕ) → logged-from base 0 os x ≡ false
+-- a cell of the log has the tag: its slot is one of the closed ones
+pub entry-met : {base closed x a b r : ℕ} {os : List ℕ} → FirstPlace os x a b r → r < b → base ≤ a → b ≤ base + closed
+    → (r - base ≤ closed) × (ltb (r - base) closed ≡ logged-from base closed os x)
 unfolding logged-from
-logged-none base os x = any-none _
+entry-met {base} {closed} {x} {r = r} {os = os} f l low high =
+    let h = f .from in
+    let at : base + (r - base) ≡ r = omega arith in
+    let there = ap (λ (i : ℕ). getD os i 0) at ∙ f .has l in
+    (omega arith, lt-ltb (r - base) closed (omega arith) ∙ sym (any-here closed _ (r - base) (omega arith) (eq-eqb _ x there)))
 
-pub logged-past : (base i : ℕ) (os : List ℕ) (x : ℕ) → logged-from base i os x ≡ false → getD os (base + i) 0 ≢ x → logged-from base (i + 1) os x ≡ false
+-- neither the later cells nor the earlier ones have it
+pub entry-missed : {base closed from x r q : ℕ} {os : List ℕ} → from ≤ closed → FirstPlace os x (base + from) (base + closed) r → base + closed ≤ r
+    → FirstPlace os x base (base + from) q → base + from ≤ q → (closed ≤ closed) × (ltb closed closed ≡ logged-from base closed os x)
 unfolding logged-from
-logged-past base i os x was ne = any-more i _ ∙ or-none _ _ (ne-eqb _ _ ne) was
-
-pub logged-here : (base i closed : ℕ) (os : List ℕ) (x : ℕ) → i < closed → getD os (base + i) 0 ≡ x → true ≡ logged-from base closed os x
-unfolding logged-from
-logged-here base i closed os x l e = sym (any-here closed _ i l (eq-eqb _ _ e))
+entry-missed {base} {closed} low later past earlier past′ =
+    let none = absent-both (absent-all earlier past′) (absent-all later past) in (
+      omega arith,
+      le-ltb closed closed (omega arith)
+          ∙ sym (any-nowhere closed _ (λ s h. ne-eqb _ _ (none .apart (base + s) (omega arith) (omega arith)))),
+    )
 
 -- ---- a tag is held where it stands, or at another place that has it
 

@@ -2,6 +2,7 @@
 use cells::masks::has_bit;
 use cells::records::known_in;
 use cells::records::or;
+use known::first_place;
 use known::is_blank;
 use layout::holders_base;
 use layout::log_place;
@@ -10,7 +11,7 @@ use model::URGENT;
 ghost use mathlib.Core.Path.{_≡_};
 ghost use mathlib.Core.Bool.{_&&_, not};
 ghost use Prim.Native.Nat.{_+_, _-_, _^_, _<_, _≤_};
-ghost use lib.Dec.{eqb};
+ghost use lib.Dec.{ltb, eqb};
 ghost use lib.ListN.{length, take};
 ghost use Rattle.model.specs.declared.Round.the-variants.{Idle};
 ghost use Rattle.model.specs.Tests.{if};
@@ -36,59 +37,67 @@ pub fn is_ahead(x: u64, y: u64) -> bool
     turned(x) < turned(y)
 }
 
-// Whether one of the closed slots has the tag. A replica's log is one run of cells, from a base on.
-fn is_logged(base: usize, closed: usize, x: u64, orders: &[u64]) -> bool
-    requires { ⌜ base + closed ≤ length (now orders) ⌝ }
-    ensures { λ r. ⌜ r ≡ logged-from base closed (now (orders .entry)) x ⌝ }
+// A place of the tag among the closed slots, or their count. A replica's log is one run of cells, from a base on; it is looked
+// through from one of its places on and then from its start.
+fn entry_place(base: usize, closed: usize, from: usize, x: u64, orders: &[u64]) -> usize
+    requires { ⌜ (base + closed ≤ length (now orders)) × (from ≤ closed) ⌝ }
+    ensures { λ r. ⌜ (r ≤ closed) × (ltb r closed ≡ logged-from base closed (now (orders .entry)) x) ⌝ }
 {
-    let mut i = 0;
-    while i < closed {
-        if orders[base + i] == x {
-            return true;
-        }
-        i += 1;
+    let end = base + closed;
+    let later = first_place(x, base + from, end, orders);
+    if later < end {
+        return later - base;
     }
-    false
+    let earlier = first_place(x, base, base + from, orders);
+    if earlier < base + from {
+        return earlier - base;
+    }
+    closed
 }
 
-// Whether a known place makes its tag pending. Its own bit is enough: a tag that is held only at another place that has it
-// is found there.
-fn waits_here(who: usize, base: usize, closed: usize, x: u64, mask: u16, orders: &[u64]) -> bool
-    requires { ⌜ (who < mask-bits) × (base + closed ≤ length (now orders)) ⌝ }
-    ensures { λ r. ⌜ r ≡ (has-bit mask who && not (logged-from base closed (now (orders .entry)) x)) ⌝ }
-{
-    if !has_bit(mask, who) {
-        return false;
-    }
-    !is_logged(base, closed, x, orders)
+// What is found so far: the first of the pending tags, 0 if there is none, and the place in the log behind the entry that was
+// met last. Tags are often logged in the order in which they were submitted, and then the next one stands there.
+struct Search {
+    first: u64,
+    behind: usize,
 }
 
-// The first of the pending tags so far, or this place's tag, if it comes ahead of it and is pending. The log is looked through
-// last.
-fn first_with(
+// One more place of the known tags, with its tag and holders. Its own bit is enough: a tag that is held only at another place that
+// has it is found there. The log is looked through last.
+fn search_on(
     who: usize,
     base: usize,
     closed: usize,
     x: u64,
     mask: u16,
-    first: u64,
+    found: Search,
     orders: &[u64],
-) -> u64
-    requires { ⌜ (who < mask-bits) × (base + closed ≤ length (now orders)) ⌝ }
+) -> Search
+    requires { ⌜ (who < mask-bits) × (base + closed ≤ length (now orders)) × (found .behind ≤ closed) ⌝ }
     ensures { λ r.
         let waits = has-bit mask who && not (logged-from base closed (now (orders .entry)) x) in
-        ⌜ r ≡ if (waits && not (eqb x 0)) (earlier x first) first ⌝ }
+        ⌜ (r .first ≡ if (waits && not (eqb x 0)) (earlier x (found .first)) (found .first)) × (r .behind ≤ closed) ⌝ }
 {
     if is_blank(x) {
-        return first;
+        return found;
     }
-    if !or(is_blank(first), is_ahead(x, first)) {
-        return first;
+    if !or(is_blank(found.first), is_ahead(x, found.first)) {
+        return found;
     }
-    if waits_here(who, base, closed, x, mask, orders) {
-        return x;
+    if !has_bit(mask, who) {
+        return found;
     }
-    first
+    let place = entry_place(base, closed, found.behind, x, orders);
+    if place < closed {
+        return Search {
+            first: found.first,
+            behind: place + 1,
+        };
+    }
+    Search {
+        first: x,
+        behind: found.behind,
+    }
 }
 
 // 0 if no tag is pending.
@@ -101,19 +110,22 @@ pub fn next_tag(numbers: Numbers, who: usize, closed: usize, words: &[u16], orde
     let known = known_in(words) as usize;
     let holders = holders_base(numbers);
     let log = log_place(numbers, who, 0);
-    let mut first = 0;
+    let mut found = Search {
+        first: 0,
+        behind: 0,
+    };
     let mut i = 0;
     while i < known {
-        first = first_with(
+        found = search_on(
             who,
             log,
             closed,
             orders[i],
             words[holders + i],
-            first,
+            found,
             orders,
         );
         i += 1;
     }
-    first
+    found.first
 }

@@ -7,11 +7,11 @@ use Rattle.orders.proofs.pending.next_tag.Statement.{statement}
 use Rattle.orders.proofs.pending.next_tag.Tie as tie
 
 abbrev Inv-loop : tie.InvT-loop
-Inv-loop who closed words orders known holders log first₀ i₀ first i =
-    (i ≤ known) × First (Stands orders (waits-at holders log closed who words orders) 0 i) first
+Inv-loop who closed words orders known holders log found₀ i₀ found i =
+    (i ≤ known) × (found .behind ≤ closed) × First (Stands orders (waits-at holders log closed who words orders) 0 i) (found .first)
 
 abbrev μ-loop : tie.MeasureT-loop
-μ-loop who closed words orders known holders log first₀ i₀ first i = known - i
+μ-loop who closed words orders known holders log found₀ i₀ found i = known - i
 
 pub next-tag-spec : {M : Type 1} → statement M
 next-tag-spec =
@@ -23,14 +23,14 @@ next-tag-spec =
     (λ c. search needs)
     (λ c κs. search needs)
     (λ c κs. search needs)
-    (λ c. (omega arith, search first-none))
+    (λ c. (omega arith, omega arith, search first-none))
     (λ c. search needs)
     (λ c. search needs)
     (λ c. search needs)
     (λ c. search needs)
     (λ c. search needs)
-    (λ c κs. (search needs, search log-there))
+    (λ c κs. (search needs, search log-there, search))
     (λ c. search needs)
     (λ c. search needs)
-    (λ c. (omega arith, search first-more))
+    (λ c. (omega arith, search, search first-more))
     (λ c. search first-is))
