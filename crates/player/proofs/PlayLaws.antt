@@ -11,12 +11,12 @@ use Rattle.model.specs.declared.Answer.the-variants.{Refused}
 use Rattle.model.proofs.Branches.{when-met, when-missed, none-left}
 use Rattle.tables.specs.Layout.{Tables}
 use Rattle.tables.specs.Calls.{OpenOutcome, open-outcome, called}
-use Rattle.reader.specs.declared.Found.{Found}
-use Rattle.reader.specs.declared.Found.the-variants.{End, Unknown, Cut, Made}
-use Rattle.reader.specs.declared.Read.{Read}
+use Rattle.format.specs.declared.Found.{Found}
+use Rattle.format.specs.declared.Found.the-variants.{End, Unknown, Cut, Made}
+use Rattle.format.specs.declared.Read.{Read}
 use Rattle.player.specs.declared.Player.{Player}
 use Rattle.player.specs.declared.Said.the-variants.{Nothing, Stopped, Answered}
-use Rattle.reader.specs.Format.{file-record}
+use Rattle.format.specs.Format.{file-record}
 use Rattle.player.specs.Play.{Turn, turn-of, out-of-place, too-large, moved-on, called-in-place, answered, turned, turn}
 
 -- a call that is out of place, one that is too large, and one that is performed

@@ -1,3 +1,4 @@
+pub mod Forms
 pub mod Play
 pub mod Room
 pub mod Unchanged

@@ -15,12 +15,12 @@ use Rattle.model.specs.Limits.{planned, plan-limited}
 use Rattle.model.specs.TurnedAway.{Ground, _when_, unless}
 use Rattle.tables.specs.Layout.{Tables}
 use Rattle.tables.specs.Calls.{OpenOutcome, open-outcome, called}
-use Rattle.reader.specs.declared.Found.{Found}
-use Rattle.reader.specs.declared.Found.the-variants.{End, Unknown, Cut, Made}
+use Rattle.format.specs.declared.Found.{Found}
+use Rattle.format.specs.declared.Found.the-variants.{End, Unknown, Cut, Made}
 use Rattle.player.specs.declared.Player.{Player}
 use Rattle.player.specs.declared.Said.{Said}
 use Rattle.player.specs.declared.Said.the-variants.{Nothing, Stopped, Answered}
-use Rattle.reader.specs.Format.{file-record}
+use Rattle.format.specs.Format.{file-record}
 
 -- document 01's number and values of what is said: of the file's end 0 and none
 abbrev pub said-number : Said → ℕ

@@ -15,11 +15,11 @@ use Rattle.model.proofs.Cases.{unless-ind}
 use Rattle.tables.specs.Layout.{Tables}
 use Rattle.tables.specs.Calls.{OpenOutcome}
 use Rattle.promises.specs.Kept.{refused-unchanged}
-use Rattle.reader.specs.declared.Found.{Found}
-use Rattle.reader.specs.declared.Found.the-variants.{End, Unknown, Cut, Made}
-use Rattle.reader.specs.Format.{file-record}
-use Rattle.reader.specs.Numbered.{found-number, record-number}
-use Rattle.reader.proofs.FoundLaws.{told-number}
+use Rattle.format.specs.declared.Found.{Found}
+use Rattle.format.specs.declared.Found.the-variants.{End, Unknown, Cut, Made}
+use Rattle.format.specs.Format.{file-record}
+use Rattle.format.specs.Numbered.{found-number, record-number}
+use Rattle.format.proofs.FoundLaws.{told-number}
 use Rattle.player.specs.declared.Player.{Player}
 use Rattle.player.specs.Play.{Turn, moved-on, place-refusals, called-in-place, answered, turned, turn}
 

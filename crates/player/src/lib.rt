@@ -1,11 +1,11 @@
 // The player: each record is read, refused with 19, 20 or 21, or made a call. The call of the library is `play_record`.
 use calls::perform;
+use format::Found;
 use model::Answer;
 use model::Call;
 use model::Numbers;
 use model::Plan;
 use model::Refusal;
-use reader::Found;
 use reader::read_at;
 use values::limits::plan_limited;
 use values::limits::plan_numbers;

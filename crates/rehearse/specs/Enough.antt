@@ -22,7 +22,7 @@ use Rattle.tables.specs.Calls.{OpenOutcome, open-rack, called}
 use Rattle.player.specs.declared.Player.{Player}
 use Rattle.player.specs.Play.{too-large, called-in-place}
 use Rattle.player.specs.Room.{opens-within}
-use Rattle.player.proofs.LargeLaws.{large-phases, large-room}
+use Rattle.player.proofs.LargeLaws.{large-slots, large-phases, large-room}
 use Rattle.player.proofs.PlayLaws.{on-large, on-call}
 use Rattle.rehearse.specs.Rehearsal.{most, blank, blank-strip}
 
@@ -64,3 +64,11 @@ module _ (p : Player) (q : Plan) (none : p .opened ≡ false) (limits : plan-lim
       by-phases : (b : Bool) → ltb 16 (N .phases) ≡ b → b ≡ too-large most (Open q)
       by-phases true e = large-phases most q limits refl n slots (ltb-true _ _ e)
       by-phases false e = sym (le-ltb (most .room) (N .room) room) ∙ large-room most q limits refl n slots (ltb-false _ _ e)
+
+  -- and its tables stay as they are: above 16 slots an opening within the limits, so up to 1,024, gets 2
+  pub bands-above-16 : N .n ≤ most .n → N .phases ≤ most .phases → N .room ≤ most .room → answer ≡ if (ltb 16 (N .slots)) (Refused ShortTable) (Opened N)
+  bands-above-16 n phases room = answered (by-slots _ refl)
+    where
+      by-slots : (b : Bool) → ltb 16 (N .slots) ≡ b → b ≡ too-large most (Open q)
+      by-slots true e = large-slots most q limits refl n (ltb-true _ _ e)
+      by-slots false e = sym (le-ltb (most .room) (N .room) room) ∙ large-room most q limits refl n (ltb-false _ _ e) phases

@@ -13,14 +13,14 @@ use Rattle.model.specs.declared.Answer.{Answer}
 use Rattle.model.specs.declared.Answer.the-variants.{Refused, Done, Ran, Opened, Conducted}
 use Rattle.model.proofs.Cases.{if-ind, clash}
 use Rattle.tables.specs.Layout.{Tables}
-use Rattle.reader.specs.declared.Read.{Read}
-use Rattle.reader.specs.Format.{byte, body-length, file-record}
-use Rattle.reader.proofs.ReaderLaws.{some-body}
+use Rattle.format.specs.declared.Read.{Read}
+use Rattle.format.specs.Format.{byte, last-kind, step-kind, is-wide, body-length, file-record}
+use Rattle.format.proofs.BodyLaws.{some-body}
 use Rattle.player.specs.declared.Player.{Player}
 use Rattle.player.specs.Play.{Turn, moved-on, turned, turn, goes-on, play, begun}
 use Rattle.session.specs.Reported.{fresh, whole}
 
-moved-to : (p : Player) (next : ℕ) (a : Answer) → moved-on p next a .at ≡ next
+pub moved-to : (p : Player) (next : ℕ) (a : Answer) → moved-on p next a .at ≡ next
 moved-to p next (Refused why) = refl
 moved-to p next Done = refl
 moved-to p next (Ran k) = refl
@@ -38,12 +38,12 @@ module _ (most : Numbers) (file : List ℕ) where
       let at = p .at in
       let body = body-length (byte file at) in
       let P : Read → Type 0 = λ r. Past (at + 2) (turned most p t strip (r .next) (r .found)) in
-      if-ind P (leb (length file) at) (λ e h. clash h) (λ here. if-ind P (ltb 7 (byte file at)) (λ e h. clash h)
+      if-ind P (leb (length file) at) (λ e h. clash h) (λ here. if-ind P (ltb last-kind (byte file at)) (λ e h. clash h)
       (λ e. if-ind P (ltb (length file - (at + 1)) body) (λ e h. clash h)
       (λ there h.
       let a = leb-false (length file) at here in
       let b = ltb-false (length file - (at + 1)) body there in
-      let c = some-body (byte file at) in
+      let c = some-body (step-kind (byte file at)) (is-wide (byte file at)) in
       rw moved-to (omega arith, omega arith))))
 
   module _ (t : Tables) (strip : List ℕ) where

@@ -1,23 +1,23 @@
--- The report of a step file of at most 65,536 bytes has at most 1,600,000: no record's line has more than 24 bytes, and at the
--- end at most 15 controllers have a line of at most 64 entries.
+-- How long the report of a step file can be: no record's line has more than 24 bytes, and at the end each controller that the
+-- player has tables for has a line of at most 19 bytes and 21 for each slot.
 use Prim.Native.Nat.{ℕ, zero, suc, _+_, _*_, _≤_, _<_, zero-le}
 use native.Mathlib.Omega.{arith}
-use native.Mathlib.Nat.{le-trans}
-use mathlib.Core.Bool.{Bool}
+use native.Mathlib.Nat.{le-trans, mul-suc, mul-le-mul}
+use mathlib.Core.Bool.{Bool, true, false, _&&_}
 use mathlib.Core.List.{List, _++_}
-use mathlib.Core.Path.{sym, subst}
+use mathlib.Core.Path.{_≡_, sym, subst}
 use lib.Dec.{ltb, eqb}
 use lib.ListN.{length, length-append}
-use borrow.Author.Tests.{ltb-true, not-false}
+use borrow.Author.Tests.{ltb-true, ltb-false, not-false}
 use Rattle.tables.specs.Types.{Numbers, Plan, Refusal, BadPlan, ShortTable, SpoiledRecord, NoSuchReplica, Crashed, BlankTag, AlreadyHeld}
 use Rattle.tables.specs.Types.{TagRoomFull, UnknownTag, Busy, LogFull, NothingPending, NotBegun, TooFewHeard, PhasesUsedUp, NoSuchMessage}
 use Rattle.tables.specs.Types.{NotSent, AlreadyHeard, UnknownKind, CutRecord, OutOfPlace, Call, Open, Single, RunOn, Answer}
 use Rattle.tables.specs.Types.{NotLevel, TooFewRunning, Conduct}
 use Rattle.model.specs.Answers.{refusal-number}
-use Rattle.model.specs.Limits.{most-replicas, most-slots, limited, planned, plan-limited}
+use Rattle.model.specs.Limits.{most-slots, limited, planned, plan-limited}
 use Rattle.model.specs.Rack.{round-in, Replica}
 use Rattle.model.proofs.Branches.{if-true}
-use Rattle.model.proofs.Cases.{if-ind, and-true, Unmet, unless-ind}
+use Rattle.model.proofs.Cases.{clash, if-ind, and-true, or-false, Unmet, unless-ind}
 use Rattle.tables.specs.Layout.{Tables, record-at}
 use Rattle.tables.specs.View.{only, view}
 use Rattle.tables.specs.Bounds.{Bounds, bounds}
@@ -26,11 +26,11 @@ use Rattle.tables.specs.Calls.{OpenOutcome, opening-refusals, open-rack, called
 use Rattle.report.specs.Text.{text, decimal}
 use Rattle.report.specs.Lines.{opened-line, refused-line, entry-text, entries-text, light, bench-line, bench-lines}
 use Rattle.report.specs.Decimal.{digits-most, digits-few}
-use Rattle.reader.specs.declared.Found.{Found}
-use Rattle.reader.specs.declared.Found.the-variants.{End, Unknown, Cut, Made}
+use Rattle.format.specs.declared.Found.{Found}
+use Rattle.format.specs.declared.Found.the-variants.{End, Unknown, Cut, Made}
 use Rattle.player.specs.declared.Player.{Player}
 use Rattle.player.specs.declared.Said.the-variants.{Answered}
-use Rattle.player.specs.Play.{Turn, place-refusals, called-in-place, turned, turn, goes-on, play, begun}
+use Rattle.player.specs.Play.{Turn, too-large, moved-on, place-refusals, called-in-place, turned, turn, goes-on, play, begun}
 use Rattle.session.specs.Reported.{said-line, line-on, lines, ending, fresh, whole, report}
 use Rattle.session.specs.Played.{opened-sound}
 use Rattle.session.specs.Unopened.{step-answer, run-answer, conduct-answer}
@@ -134,15 +134,15 @@ light-short : (crashed : Bool) → length (light crashed) ≤ 6
 light-short crashed = if-ind (λ (v : List ℕ). length v ≤ 6) crashed (λ _. omega arith) (λ _. omega arith)
 
 -- the most bytes of a replica's line
-abbrev bench-most : ℕ
-bench-most = 17 + 21 * most-slots
+abbrev pub bench-most : ℕ → ℕ
+bench-most slots = 19 + 21 * slots
 
-bench-short : (c : ℕ) (crashed : Bool) (closed : ℕ) (entry : ℕ → ℕ) → c < 100 → closed ≤ most-slots
-    → length (bench-line c crashed closed entry) ≤ bench-most
-bench-short c crashed closed entry h g =
+bench-short : (c : ℕ) (crashed : Bool) (slots closed : ℕ) (entry : ℕ → ℕ) → c < 100 → slots ≤ most-slots → closed ≤ slots
+    → length (bench-line c crashed closed entry) ≤ bench-most slots
+bench-short c crashed slots closed entry h few g =
     let es = entries-text closed entry in
     let a = digits-few 1 20 c h in
-    let b = digits-few 1 20 closed (omega arith) in
+    let b = digits-few 3 20 closed (omega arith) in
     let d = light-short crashed in
     let e = entries-short closed entry in
     let e₁ = length-append (decimal c) (light crashed ++ (decimal closed ++ (es ++ text "\n"))) in
@@ -150,37 +150,87 @@ bench-short c crashed closed entry h g =
     let e₃ = length-append (decimal closed) (es ++ text "\n") in
     let e₄ = length-append es (text "\n") in omega arith
 
-benches-short : (at : ℕ → Replica) → ((c : ℕ) → at c .closed ≤ most-slots) → (c : ℕ) → c < 100 → length (bench-lines c at) ≤ bench-most * c
+benches-short : (at : ℕ → Replica) (slots : ℕ) → slots ≤ most-slots → ((c : ℕ) → at c .closed ≤ slots)
+    → (c : ℕ) → c < 100 → length (bench-lines c at) ≤ bench-most slots * c
 unfolding bench-lines
-benches-short at few zero h = omega arith
-benches-short at few (suc c) h =
+benches-short at slots little few zero h = omega arith
+benches-short at slots little few (suc c) h =
     let r = at c in
-    let a = benches-short at few c (omega arith) in
-    let b = bench-short c (r .crashed) (r .closed) (r .entry) (omega arith) (few c) in
-    let d = length-append (bench-lines c at) (bench-line c (r .crashed) (r .closed) (r .entry)) in omega arith
+    let a = benches-short at slots little few c (omega arith) in
+    let b = bench-short c (r .crashed) slots (r .closed) (r .entry) (omega arith) little (few c) in
+    let d = length-append (bench-lines c at) (bench-line c (r .crashed) (r .closed) (r .entry)) in
+    let e : bench-most slots * suc c ≡ bench-most slots * c + bench-most slots = mul-suc (bench-most slots) c in omega arith
 
 -- a replica whose record is not spoiled has closed no more slots than there are
-slots-few : (N : Numbers) (t : Tables) → Sound N t → (c : ℕ) → view N t .at c .closed ≤ most-slots
+slots-few : (N : Numbers) (t : Tables) → Sound N t → (c : ℕ) → view N t .at c .closed ≤ N .slots
 unfolding only
 slots-few N t fine c = let k = record-at (t .words) c in
-    if-ind (λ (r : Replica). r .closed ≤ most-slots) (ltb c (N .n))
-    (λ h. le-trans (closed-few N (k .slot) (k .phase) (round-in (k .round)) (stands N fine (ltb-true c (N .n) h))) (fine .within .slots-few)) (λ _. omega arith)
+    if-ind (λ (r : Replica). r .closed ≤ N .slots) (ltb c (N .n))
+    (λ h. closed-few N (k .slot) (k .phase) (round-in (k .round)) (stands N fine (ltb-true c (N .n) h))) (λ _. zero-le)
+
+-- ---- an opened run is no larger than the player's tables
+
+module _ (most : Numbers) where
+  abbrev Fit : Player → Type 0
+  Fit p = p .opened ≡ true → (p .numbers .n ≤ most .n) × (p .numbers .slots ≤ most .slots)
+
+  module _ (p : Player) (next : ℕ) (fit : Fit p) (t : Tables) (strip : List ℕ) where
+    -- what an answer leaves
+    abbrev Stays : Answer → Type 0
+    Stays a = Fit (moved-on p next a)
+
+    opening-fits : (q : Plan) → too-large most (Open q) ≡ false → Stays (open-rack q t strip .answer)
+    unfolding open-rack Unmet
+    opening-fits q small = unless-ind (λ (o : OpenOutcome). Stays (o .answer)) (opening-refusals q t strip) (λ why. fit)
+        (λ u h. let N = planned q in
+        let larger = told-small (plan-limited q) _ (not-false (plan-limited q) (u .0)) small in
+        let (a, more) = or-false (ltb (most .n) (N .n)) _ larger in
+        let (b, more₁) = or-false (ltb (most .slots) (N .slots)) _ more in
+        (ltb-false (most .n) (N .n) a, ltb-false (most .slots) (N .slots) b))
+      where
+        told-small : (a b : Bool) → a ≡ true → (a && b) ≡ false → b ≡ false
+        told-small true b h e = e
+        told-small false b h e = clash h
+
+    call-fits : (N : Numbers) (a : Call) → too-large most a ≡ false → Stays (called N a t strip .answer)
+    unfolding called
+    call-fits N (Open q) small = opening-fits q small
+    call-fits N (Single a) small = step-answer Stays (λ why. fit) fit (λ _. fit) (λ _ _. fit) N strip t a
+    call-fits N (RunOn c) small = run-answer Stays (λ why. fit) fit (λ _. fit) (λ _ _. fit) N strip t c
+    call-fits N Conduct small = conduct-answer Stays (λ why. fit) fit (λ _. fit) (λ _ _. fit) N strip t
+
+    turn-fits : (f : Found) → Fit (turned most p t strip next f .player)
+    unfolding turned called-in-place Unmet
+    turn-fits End = fit
+    turn-fits Unknown = fit
+    turn-fits Cut = fit
+    turn-fits (Made a) =
+        unless-ind (λ (o : OpenOutcome). Stays (o .answer)) (place-refusals most p a) (λ why. fit) (λ u. call-fits (p .numbers) a (u .1 .0))
 
 -- ---- the whole report
 
 module _ (most : Numbers) (file : List ℕ) (t : Tables) (strip : List ℕ) where
-  ending-short : (k : ℕ) → length (ending (play k most file (begun fresh t strip))) ≤ bench-most * most-replicas
+  played-fits : (k : ℕ) → Fit most (play k most file (begun fresh t strip) .player)
+  unfolding play turn
+  played-fits zero = λ h. clash h
+  played-fits (suc k) = let y = play k most file (begun fresh t strip) in
+      if-ind (λ (x : Turn). Fit most (x .player)) (goes-on (y .said)) (λ _. turn-fits most (y .player) _ (played-fits k) (y .tables) (y .strip) _)
+      (λ _. played-fits k)
+
+  ending-short : (k : ℕ) → length (ending (play k most file (begun fresh t strip))) ≤ bench-most (most .slots) * most .n
   ending-short k = let x = play k most file (begun fresh t strip) in let N = x .player .numbers in
-      if-ind (λ (v : List ℕ). length v ≤ bench-most * most-replicas) (x .player .opened)
+      if-ind (λ (v : List ℕ). length v ≤ bench-most (most .slots) * most .n) (x .player .opened)
       (λ e.
       let fine = opened-sound most file t strip k e in
       let b = fine .within in
-      let h = benches-short (view N (x .tables) .at) (slots-few N (x .tables) fine) (N .n) (omega arith) in omega arith) (λ _. omega arith)
+      let (fewer, shorter) = played-fits k e in
+      le-trans (benches-short (view N (x .tables) .at) (N .slots) (b .slots-few) (slots-few N (x .tables) fine) (N .n) (omega arith))
+      (mul-le-mul (omega arith) fewer)) (λ _. zero-le)
 
-  pub report-fits : length file ≤ 65536 → length (report most file t strip) ≤ 1600000
+  pub report-fits : length file < 100000 → length (report most file t strip) ≤ 24 * length file + bench-most (most .slots) * most .n
   unfolding report whole
   report-fits h =
       let x = begun fresh t strip in
-      let a = lines-short (length file) most file x (omega arith) in
+      let a = lines-short (length file) most file x h in
       let b = ending-short (length file) in
       let c = length-append (lines (length file) most file x) (ending (whole most file t strip)) in omega arith

@@ -21,10 +21,10 @@ use Rattle.demand.specs.Lists.{Item, lent, as-lent, played, tables-after, Fair,
 use Rattle.demand.specs.Openings.{accepted-opening}
 use Rattle.demand.specs.Statement.{Demand3}
 use Rattle.demand.specs.Theorem.{demand-3, next-answer}
-use Rattle.reader.specs.declared.Found.{Found}
-use Rattle.reader.specs.declared.Found.the-variants.{End, Unknown, Cut, Made}
-use Rattle.reader.specs.declared.Read.{Read}
-use Rattle.reader.specs.Format.{file-record}
+use Rattle.format.specs.declared.Found.{Found}
+use Rattle.format.specs.declared.Found.the-variants.{End, Unknown, Cut, Made}
+use Rattle.format.specs.declared.Read.{Read}
+use Rattle.format.specs.Format.{file-record}
 use Rattle.player.specs.declared.Player.{Player}
 use Rattle.player.specs.declared.Said.{Said}
 use Rattle.player.specs.declared.Said.the-variants.{Nothing, Stopped, Answered}

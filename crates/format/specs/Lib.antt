@@ -1,0 +1,3 @@
+pub mod Format
+pub mod Forms
+pub mod Numbered
