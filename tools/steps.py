@@ -29,6 +29,13 @@ Any number that fits its bytes can be written, also one that the library refuses
 number. A phase that is left out is 0, but a state or vote wants one. The rehearsal program has tables for 7 controllers, 16
 slots, 16 phases and 64 tags: larger openings get refusal 2 there. The conductor has no kind of record: its steps are written
 one by one.
+
+Records of kinds 0 and 4, opening and hear, have one byte for the slots or the slot; kinds 8 and 9 are the same steps with two.
+`opening` and `hear` are packed as the number asks, with two bytes from 256 on, and nobody has to think of it. Who wants kinds 8
+and 9 for smaller numbers, too, writes `wide` before the step, and unpack writes it where a file has them so:
+
+    wide opening 3 1 2 4 4 0
+    wide hear 0 1 vote 0 1
 """
 
 import argparse
@@ -71,17 +78,31 @@ def declare(word, **sizes):
     return Kind(word, tuple(Field(name, size) for name, size in sizes.items()))
 
 
-# by their numbers; a field's size is in bytes
+def widen(kind, name):
+    """The same step with two bytes for the field of that name."""
+    fields = (field._replace(size=2) if field.name == name else field for field in kind.fields)
+    return Kind(f"wide {kind.word}", tuple(fields))
+
+
+# a field's size is in bytes
+OPENING = declare("opening", n=1, f=1, slots=1, phases=1, room=2, start=2)
+HEAR = declare("hear", receiver=1, sender=1, sort=1, slot=1, phase=1)
+WIDE = {OPENING: widen(OPENING, "slots"), HEAR: widen(HEAR, "slot")}
+NARROW = {wide: narrow for narrow, wide in WIDE.items()}
+# by their numbers
 KINDS = (
-    declare("opening", n=1, f=1, slots=1, phases=1, room=2, start=2),
+    OPENING,
     declare("submit", controller=1, tag=8),
     declare("relay", controller=1, tag=8),
     declare("begin", controller=1),
-    declare("hear", receiver=1, sender=1, sort=1, slot=1, phase=1),
+    HEAR,
     declare("advance", controller=1),
     declare("crash", controller=1),
     declare("run on", controller=1),
+    WIDE[OPENING],
+    WIDE[HEAR],
 )
+HEARS = (HEAR, WIDE[HEAR])
 SORTS = {"proposal": 1, "state": 2, "vote": 3, "notice": 4}
 SORT_WORDS = {number: word for word, number in SORTS.items()}
 TAGS = 2**64
@@ -166,19 +187,20 @@ def wanted(field):
 def wanted_words(kind):
     names = ", ".join(field.name for field in kind.fields)
     count = len(kind.fields)
-    note = "; no phase for a proposal or notice" if kind.word == "hear" else ""
+    note = "; no phase for a proposal or notice" if kind in HEARS else ""
     return f"{count} {'word' if count == 1 else 'words'} ({names}{note})"
 
 
 def read_words(kind, words):
-    """The numbers of a step from the words behind its name."""
-    if kind.word == "hear" and len(words) == 4 and words[2] not in ("state", "vote"):
+    """The numbers of a step from the words behind its name; a number that the wide kind has room for is taken."""
+    if kind in HEARS and len(words) == 4 and words[2] not in ("state", "vote"):
         words = [*words, "0"]
+    fields = WIDE.get(kind, kind).fields
     mistakes = []
-    if len(words) != len(kind.fields):
+    if len(words) != len(fields):
         mistakes.append(f"{kind.word} wants {wanted_words(kind)}, not {len(words)}")
-    numbers = [read_field(field, word) for field, word in zip(kind.fields, words)]
-    for field, word, number in zip(kind.fields, words, numbers):
+    numbers = [read_field(field, word) for field, word in zip(fields, words)]
+    for field, word, number in zip(fields, words, numbers):
         if number is None:
             mistakes.append(f"{kind.word} wants {wanted(field)}, not '{word}'")
     if mistakes:
@@ -186,11 +208,16 @@ def read_words(kind, words):
     return numbers
 
 
+def fits(kind, numbers):
+    return all(number < 256**field.size for field, number in zip(kind.fields, numbers))
+
+
 def read_line(words):
     for kind in KINDS:
         name = kind.word.split()
         if words[: len(name)] == name:
-            return Step(kind, read_words(kind, words[len(name) :]))
+            numbers = read_words(kind, words[len(name) :])
+            return Step(kind if fits(kind, numbers) else WIDE[kind], numbers)
     if words[0] in ("conduct", "conductor"):
         raise Mistakes(["step files have no kind for the conductor, a call of the library; write its steps one by one"])
     *others, last = [kind.word for kind in KINDS]
@@ -228,11 +255,17 @@ def field_text(field, number):
     return str(number)
 
 
+def step_word(step):
+    """A step's name; without `wide` where the numbers ask for it, since reading adds it there."""
+    narrow = NARROW.get(step.kind, step.kind)
+    return step.kind.word if fits(narrow, step.numbers) else narrow.word
+
+
 def step_text(step):
     words = [field_text(field, number) for field, number in zip(step.kind.fields, step.numbers)]
     if words[2:3] in (["proposal"], ["notice"]) and words[-1] == "0":
         words.pop()
-    return " ".join([step.kind.word, *words])
+    return " ".join([step_word(step), *words])
 
 
 def step_bytes(step):

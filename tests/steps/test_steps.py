@@ -38,9 +38,12 @@ TAG_WANTED = (
     "a tag (a number from 0 to 18446744073709551615, or time:number with each from 0 to 4294967295; "
     "if urgent, ! before a number up to 9223372036854775807 or a time up to 2147483647)"
 )
-STEPS_WANTED = "expected opening, submit, relay, begin, hear, advance, crash or run on"
+STEPS_WANTED = "expected opening, submit, relay, begin, hear, advance, crash, run on, wide opening or wide hear"
 HEAR_WANTED = "hear wants 5 words (receiver, sender, sort, slot, phase; no phase for a proposal or notice)"
 SORT_WANTED = "hear wants a sort (proposal, state, vote, notice)"
+
+# of slots and slot: both ends of one byte, the limit and what lies beside it, the end of two bytes
+BOUNDARIES = (0, 1, 255, 256, 1023, 1024, 1025, 65535)
 
 
 def packed(text):
@@ -125,8 +128,46 @@ class Layout(unittest.TestCase):
         self.check("hear 0 1 vote 2 3", 4, 0, 1, 3, 2, 3)
         self.check("hear 2 0 notice 1", 4, 2, 0, 4, 1, 0)
 
+    def test_wide(self):
+        self.check("wide opening 3 1 2 4 4 0", 8, 3, 1, 2, 0, 4, 4, 0, 0, 0)
+        self.check("wide opening 15 7 255 32 1024 510", 8, 15, 7, 255, 0, 32, 0, 4, 254, 1)
+        self.check("wide hear 0 1 proposal 2", 9, 0, 1, 1, 2, 0, 0)
+        self.check("wide hear 0 1 state 255 3", 9, 0, 1, 2, 255, 0, 3)
+        self.check("wide hear 0 1 vote 2 3", 9, 0, 1, 3, 2, 0, 3)
+        self.check("wide hear 2 0 notice 0", 9, 2, 0, 4, 0, 0, 0)
+
+    def test_wide_without_the_word(self):
+        """From 256 on only two bytes will do."""
+        self.check("opening 3 1 255 4 4 0", 0, 3, 1, 255, 4, 4, 0, 0, 0)
+        self.check("opening 3 1 256 4 4 0", 8, 3, 1, 0, 1, 4, 4, 0, 0, 0)
+        self.check("opening 15 7 1024 32 1024 510", 8, 15, 7, 0, 4, 32, 0, 4, 254, 1)
+        self.check("hear 0 1 vote 255 3", 4, 0, 1, 3, 255, 3)
+        self.check("hear 0 1 vote 256 3", 9, 0, 1, 3, 0, 1, 3)
+        self.check("hear 0 1 proposal 1023", 9, 0, 1, 1, 255, 3, 0)
+        self.check("hear 2 0 notice 1023", 9, 2, 0, 4, 255, 3, 0)
+
+    def test_wide_of_a_large_number_is_the_same(self):
+        for slots in (256, 1024, 65535):
+            for step in (f"opening 3 1 {slots} 4 4 0", f"hear 0 1 vote {slots} 1", f"hear 2 0 notice {slots}"):
+                self.assertEqual(packed(f"wide {step}"), packed(step))
+                self.assertEqual(unpacked(packed(f"wide {step}")), f"{step}\n")
+
+    def test_wide_steps_say_what_the_others_do(self):
+        """Whatever the number, both words give the same step; the record has two bytes for it where it must or is asked to."""
+        for slots in BOUNDARIES:
+            for step, kinds in ((f"opening 3 1 {slots} 4 4 0", (0, 8)), (f"hear 0 1 vote {slots} 1", (4, 9))):
+                [plain], [wide] = (steps.read_steps(packed(text))[0] for text in (step, f"wide {step}"))
+                self.assertEqual(plain.numbers, wide.numbers)
+                self.assertIn(slots, plain.numbers)
+                self.assertEqual([packed(step)[0], packed(f"wide {step}")[0]], [kinds[slots > 255], kinds[1]])
+                self.assertEqual(unpacked(packed(step)), f"{step}\n")
+
     def test_what_the_library_refuses_can_be_written(self):
-        self.check("opening 255 255 65 255 65535 65535", 0, 255, 255, 65, 255, 255, 255, 255, 255)
+        self.check("opening 255 255 0 255 65535 65535", 0, 255, 255, 0, 255, 255, 255, 255, 255)
+        self.check("opening 255 255 65535 255 65535 65535", 8, *[255] * 9)
+        self.check("opening 1 0 1025 1 1025 0", 8, 1, 0, 1, 4, 1, 1, 4, 0, 0)
+        self.check("hear 9 200 9 65535 4", 9, 9, 200, 9, 255, 255, 4)
+        self.check("wide hear 9 200 notice 0 1", 9, 9, 200, 4, 0, 0, 1)
         self.check("hear 9 200 proposal 255 4", 4, 9, 200, 1, 255, 4)
         self.check("hear 0 1 vote 0 0", 4, 0, 1, 3, 0, 0)
         self.check("hear 9 200 notice 255 1", 4, 9, 200, 4, 255, 1)
@@ -139,6 +180,8 @@ class Layout(unittest.TestCase):
         self.assertEqual(packed("hear 0 1 proposal 2 0"), packed("hear 0 1 proposal 2"))
         self.assertEqual(packed("hear 0 1 notice 2 0"), packed("hear 0 1 notice 2"))
         self.assertEqual(packed("hear 0 1 4 2"), packed("hear 0 1 notice 2"))
+        self.assertEqual(packed("wide hear 0 1 5 2"), bytes([9, 0, 1, 5, 2, 0, 0]))
+        self.assertEqual(packed("hear 0 1 notice 256 0"), packed("hear 0 1 notice 256"))
 
     def test_lines(self):
         text = "\ufeff# a comment\r\n\n  begin\t0   # behind a step\r\n#advance 0\n\x0cadvance 1#close"
@@ -149,9 +192,14 @@ class Layout(unittest.TestCase):
 
     def test_random_files(self):
         draw = random.Random(1)
+
+        def number(size):
+            chosen = [number for number in BOUNDARIES if number < 256**size]
+            return draw.choice([*chosen, 256**size - 1, draw.randrange(256**size)])
+
         for _ in range(300):
             read = [
-                steps.Step(kind, [draw.choice([0, 1, 256**size - 1, draw.randrange(256**size)]) for _, size in kind.fields])
+                steps.Step(kind, [number(size) for _, size in kind.fields])
                 for kind in draw.choices(steps.KINDS, k=draw.randrange(40))
             ]
             data = b"".join(map(steps.step_bytes, read))
@@ -179,6 +227,8 @@ class Mistaken(unittest.TestCase):
         self.check("sumbit 0 5", f"no step is called 'sumbit'; {STEPS_WANTED}")
         self.check("Begin 0", f"no step is called 'Begin'; {STEPS_WANTED}")
         self.check("run 0", f"no step is called 'run'; {STEPS_WANTED}")
+        for text in ("wide", "wide begin 0", "wide run on 0", "wide wide hear 0 1 vote 0 1"):
+            self.check(text, f"no step is called 'wide'; {STEPS_WANTED}")
 
     def test_no_kind_for_the_conductor(self):
         said = "step files have no kind for the conductor, a call of the library; write its steps one by one"
@@ -197,6 +247,9 @@ class Mistaken(unittest.TestCase):
         self.check("hear 0 1 vote 0 1 2", f"{HEAR_WANTED}, not 6")
         self.check("hear 2 0 notice", f"{HEAR_WANTED}, not 3")
         self.check("hear 2 0 notice 0 0 0", f"{HEAR_WANTED}, not 6")
+        self.check("wide opening 3 1 2 4 4", "wide opening wants 6 words (n, f, slots, phases, room, start), not 5")
+        self.check("wide hear 0 1 vote 0", f"wide {HEAR_WANTED}, not 4")
+        self.check("wide hear 2 0 notice 0 0 0", f"wide {HEAR_WANTED}, not 6")
 
     def test_numbers(self):
         self.check("begin x", "begin wants a number from 0 to 255 as controller, not 'x'")
@@ -206,9 +259,18 @@ class Mistaken(unittest.TestCase):
         self.check("begin \u0663", "begin wants a number from 0 to 255 as controller, not '\u0663'")
         self.check("crash " + "9" * 5000, f"crash wants a number from 0 to 255 as controller, not '{'9' * 5000}'")
         self.check("opening 3 1 2 4 65536 0", "opening wants a number from 0 to 65535 as room, not '65536'")
-        self.check("hear 0 1 vote 256 1", "hear wants a number from 0 to 255 as slot, not '256'")
-        self.check("hear 2 0 notice 256", "hear wants a number from 0 to 255 as slot, not '256'")
         self.check("hear 2 0 notice 0 x", "hear wants a number from 0 to 255 as phase, not 'x'")
+
+    def test_numbers_of_two_bytes(self):
+        """Of slots and slot, by either word; the others stay as they are."""
+        for word in ("", "wide "):
+            for number in ("65536", "-1", "x", "9" * 5000):
+                slots, slot = (f"wants a number from 0 to 65535 as {name}, not '{number}'" for name in ("slots", "slot"))
+                self.check(f"{word}opening 3 1 {number} 4 4 0", f"{word}opening {slots}")
+                self.check(f"{word}hear 0 1 vote {number} 1", f"{word}hear {slot}")
+                self.check(f"{word}hear 2 0 notice {number}", f"{word}hear {slot}")
+            self.check(f"{word}opening 256 1 300 4 4 0", f"{word}opening wants a number from 0 to 255 as n, not '256'")
+            self.check(f"{word}hear 0 1 vote 300 256", f"{word}hear wants a number from 0 to 255 as phase, not '256'")
 
     def test_tags(self):
         unmarked = ("x", "18446744073709551616", "1:", ":1", "1:2:3", "4294967296:0", "0:4294967296", "-5", "5!", "1:!2")
@@ -222,6 +284,7 @@ class Mistaken(unittest.TestCase):
         self.check("hear 0 1 votes 0", f"{SORT_WANTED}, not 'votes'")
         self.check("hear 0 1 Notice 0", f"{SORT_WANTED}, not 'Notice'")
         self.check("hear 0 1 256 0 1", f"{SORT_WANTED}, not '256'")
+        self.check("wide hear 0 1 votes 0", f"wide {SORT_WANTED}, not 'votes'")
 
     def test_only_a_newline_ends_a_line(self):
         self.assertEqual(mistakes("begin 0 # a\x0cb\x85c\nend"), [f"text:2: no step is called 'end'; {STEPS_WANTED}"])
@@ -281,6 +344,8 @@ class Commands(unittest.TestCase):
         self.assertIn("16 phases and 64 tags: larger openings get refusal 2 there", said)
         self.assertIn("The conductor has no kind of record", said)
         self.assertIn("a ! before it adds 2^63, which makes it urgent (!9, !1400:2)", said)
+        self.assertIn("packed as the number asks, with two bytes from 256 on, and nobody has to think of it", said)
+        self.assertIn("wide opening 3 1 2 4 4 0 wide hear 0 1 vote 0 1", said)
 
     def test_worked_session(self):
         text = ROOT / "examples" / "worked_session.txt"
@@ -304,10 +369,25 @@ class Commands(unittest.TestCase):
             self.assertEqual(command(*arguments), (1, b"", f"{missing}: No such file or directory\n"))
 
     def test_unpack_of_a_broken_file(self):
-        unknown = b"begin 1\n# refused 19, unknown kind (no step has this kind): kind 9 at byte 2\n"
-        self.assertEqual(command("unpack", "-", given=bytes([3, 1, 9, 3, 1])), (1, unknown, ""))
+        unknown = b"begin 1\n# refused 19, unknown kind (no step has this kind): kind 10 at byte 2\n"
+        self.assertEqual(command("unpack", "-", given=bytes([3, 1, 10, 3, 1])), (1, unknown, ""))
         cut = b"# refused 20, cut record (the file ends inside a body): submit at byte 0 with 2 of 9 bytes\n"
         self.assertEqual(command("unpack", "-", given=bytes([1, 0, 5])), (1, cut, ""))
+
+    def test_cut_bodies(self):
+        """Of every kind, after any of its bytes but the last; the wide ones are one byte longer."""
+        lengths = [8, 9, 9, 1, 5, 1, 1, 1, 9, 6]
+        for kind, length in enumerate(lengths):
+            word = steps.KINDS[kind].word
+            for place in range(length):
+                cut = steps.Broken(f"{word} at byte 2 with {place} of {length} bytes", 20)
+                read, broken = steps.read_steps(bytes([3, 1, kind]) + bytes(place))
+                self.assertEqual((len(read), broken), (1, cut))
+            read, broken = steps.read_steps(bytes([3, 1, kind]) + bytes(length))
+            self.assertEqual((len(read), broken), (2, None))
+        for kind in range(len(lengths), 256):
+            broken = steps.Broken(f"kind {kind} at byte 0", 19)
+            self.assertEqual(steps.read_steps(bytes([kind]) + bytes(20)), ([], broken))
 
     def test_explain_text(self):
         text, report = (ROOT / "examples" / f"worked_session.{end}" for end in ("txt", "report"))
@@ -315,11 +395,11 @@ class Commands(unittest.TestCase):
         self.assertEqual(command("explain", text, "-", given=report.read_bytes())[1].decode(), WORKED_EXPLAINED)
 
     def test_explain_step_file(self):
-        path = self.file("broken.steps", bytes([3, 1, 9]))
+        path = self.file("broken.steps", bytes([3, 1, 10]))
         report = b"refused 1 21\nrefused 2 19\n"
         explained = (
             "refused 1 21       begin 1: out of place (step before an accepted opening, or opening after one)\n"
-            "refused 2 19       kind 9 at byte 2: unknown kind (no step has this kind)\n"
+            "refused 2 19       kind 10 at byte 2: unknown kind (no step has this kind)\n"
         )
         self.assertEqual(command("explain", path, "-", given=report), (0, explained.encode(), ""))
         self.assertEqual(command("explain", path, "-"), (0, b"", ""))
@@ -333,6 +413,22 @@ class Commands(unittest.TestCase):
             "bench 0 lit 1 9223378049808990210  (!1400:2)\n"
         )
         self.assertEqual(command("explain", path, "-", given=report), (0, explained.encode(), ""))
+
+    def test_explain_shows_wide_steps(self):
+        """As they are unpacked, whatever the text has."""
+        text = b"wide opening 1 0 300 1 4 0\nhear 0 0 notice 256\nwide hear 0 0 notice 5\n"
+        report = b"controllers 1 spare 0\nrefused 2 17\nrefused 3 17\nbench 0 lit 0\n"
+        unsent = "unsent (the sender hasn't sent it; of a notice, hasn't closed that slot)"
+        explained = (
+            "controllers 1 spare 0\n"
+            f"refused 2 17       line 2: hear 0 0 notice 256: {unsent}\n"
+            f"refused 3 17       line 3: wide hear 0 0 notice 5: {unsent}\n"
+            "bench 0 lit 0\n"
+        )
+        of_text, of_steps = self.file("band.txt", text), self.file("band.steps", packed(text.decode()))
+        self.assertEqual(command("explain", of_text, "-", given=report), (0, explained.encode(), ""))
+        without_lines = re.sub("line [0-9]: ", "", explained)
+        self.assertEqual(command("explain", of_steps, "-", given=report), (0, without_lines.encode(), ""))
 
     def test_a_report_of_another_file(self):
         path = self.file("short.txt", b"begin 0\n")
