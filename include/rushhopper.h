@@ -31,8 +31,14 @@ extern "C" {
 /* ---- Part 1: the library ---- */
 
 /* The numbers of a run: n replicas, f of which may crash, slots, phases to a slot, and room for known tags.
- * n 1 to 15 with 2f + 1 at most n, slots 1 to 64, phases 1 to 32, room 1 to 256. */
+ * n 1 to 15 with 2f + 1 at most n, slots 1 to 1,024, phases 1 to 32, room 1 to 1,024. */
 struct rushhopper_numbers { size_t n, f, slots, phases, room; };
+
+/* These limits by name, for memories that are to hold any run. */
+#define RUSHHOPPER_MOST_REPLICAS 15
+#define RUSHHOPPER_MOST_SLOTS 1024
+#define RUSHHOPPER_MOST_PHASES 32
+#define RUSHHOPPER_MOST_ROOM 1024
 
 /* An order's tag is any number but 0. With this bit, its highest, it is urgent and ranks before all tags without it; then the
  * smaller number counts. */
@@ -152,18 +158,19 @@ static inline size_t rushhopper_strip_length(struct rushhopper_numbers numbers)
  * By the lengths of the lines (crates/report/specs/Lines). A record has at least two bytes, but the last may be cut after one,
  * and at most one line. `refused K R` has 12 bytes and the digits of K: 16 for up to 9,999 records, 20 for less than a hundred
  * million, 32 for any 64-bit K. The one accepted opening's line has at most 23 bytes, and one byte is to spare. A replica's
- * line at the end has 17 bytes and 21 for each slot, as in `ending-short` of crates/session/specs/Fits; by that and 24 bytes to
- * a line, the theorem `report-fits` there has 1,600,000 bytes for any file of up to 65,536. */
+ * line at the end has at most 19 bytes and 21 for each slot; the theorem `report-fits` of crates/session/specs/Fits has the
+ * same, and in all at most 24 * K + n * (19 + 21 * slots) bytes for a file of K bytes, K below 100,000. */
 #define RUSHHOPPER_MOST_RECORDS(file_length) ((size_t)(file_length) / 2 + 1)
 #define RUSHHOPPER_MOST_LINE(records) ((size_t)((records) < 10000 ? 16 : (records) < 100000000 ? 20 : 32))
 #define RUSHHOPPER_REPORT_LENGTH(file_length, n, slots) \
     (RUSHHOPPER_MOST_RECORDS(file_length) * RUSHHOPPER_MOST_LINE(RUSHHOPPER_MOST_RECORDS(file_length)) + 24 + \
-     (size_t)(n) * (17 + 21 * (size_t)(slots)))
+     (size_t)(n) * (19 + 21 * (size_t)(slots)))
 
-/* The same for a player of at most the numbers `most`; no run has more than 15 replicas or 64 slots. */
+/* The same for a player of at most the numbers `most`; no run has more replicas or slots than the limits. */
 static inline size_t rushhopper_report_length(size_t file_length, struct rushhopper_numbers most)
 {
-    const size_t n = most.n < 15 ? most.n : 15, slots = most.slots < 64 ? most.slots : 64;
+    const size_t n = most.n < RUSHHOPPER_MOST_REPLICAS ? most.n : RUSHHOPPER_MOST_REPLICAS;
+    const size_t slots = most.slots < RUSHHOPPER_MOST_SLOTS ? most.slots : RUSHHOPPER_MOST_SLOTS;
 
     return RUSHHOPPER_REPORT_LENGTH(file_length, n, slots);
 }
@@ -233,7 +240,8 @@ struct rushhopper_conducted rushhopper_conduct(struct rushhopper_numbers numbers
 /* Plays a step file on memories for at most the numbers `most` and writes its report, as the rehearsal program does. An
  * opening of more replicas, slots, phases or room than `most` gets refusal 2, and so does one that the memories or the strip
  * are too short for; most.f is not looked at. A file may have any length: the limit of 65,536 bytes is the rehearsal
- * program's.
+ * program's. Openings and hears may be written in either kind of record, 0 and 4 with one byte for the slots or the slot, 8 and
+ * 9 with two: each gives the same step in both.
  *
  * The report is written from the front of the buffer; what does not fit is left out, and the rest of the buffer is not
  * touched. It is whole if `written` is below report_length. If they are equal it may be cut, and a buffer of

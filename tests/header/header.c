@@ -12,9 +12,12 @@
 
 RUSHHOPPER_DEFINE_MEMORIES(smallest, 1, 1, 1, 1);
 RUSHHOPPER_DEFINE_MEMORIES(rack, 3, 2, 0, 4);
-RUSHHOPPER_DEFINE_MEMORIES(largest, 15, 64, 32, 256);
+RUSHHOPPER_DEFINE_MEMORIES(band, 3, 1024, 2, 1024);
+RUSHHOPPER_DEFINE_MEMORIES(largest, RUSHHOPPER_MOST_REPLICAS, RUSHHOPPER_MOST_SLOTS, RUSHHOPPER_MOST_PHASES,
+                           RUSHHOPPER_MOST_ROOM);
 
-static const struct rushhopper_numbers alone = {1, 0, 1, 1, 1}, three = {3, 1, 2, 0, 4}, most = {15, 7, 64, 32, 256};
+static const struct rushhopper_numbers alone = {1, 0, 1, 1, 1}, three = {3, 1, 2, 0, 4}, long_band = {3, 1, 1024, 2, 1024};
+static const struct rushhopper_numbers most = {15, 7, 1024, 32, 1024}, rehearsal = {7, 3, 16, 16, 64};
 static const struct rushhopper_replica zero = {0}, one = {1}, two = {2}, beyond = {3}, farthest = {SIZE_MAX};
 
 static int failed;
@@ -50,16 +53,19 @@ static void lengths_are_exact(struct rushhopper_memories *memories, struct rushh
 /* The numbers of README.md, "Sizes of the memories". */
 static void bytes_are_those_of_the_readme(void)
 {
-    static const struct { size_t n, of_8, of_16, of_32; } rows[] = {
-        {3, 16154, 25882, 45338}, {5, 24874, 40746, 72490}, {15, 68474, 115066, 208250}
+    static const struct { size_t n, slots, room, of_8, of_16, of_32; } rows[] = {
+        {3, 64, 256, 16154, 25882, 45338}, {5, 64, 256, 24874, 40746, 72490}, {15, 64, 256, 68474, 115066, 208250},
+        {3, 1024, 1024, 227354, 383002, 694298}, {5, 1024, 1024, 366634, 620586, 1128490},
+        {15, 1024, 1024, 1063034, 1808506, 3299450}
     };
     size_t i;
 
     for (i = 0; i < sizeof rows / sizeof rows[0]; i++) {
-        EXPECT(RUSHHOPPER_BYTES(rows[i].n, 64, 8, 256) == rows[i].of_8);
-        EXPECT(RUSHHOPPER_BYTES(rows[i].n, 64, 16, 256) == rows[i].of_16);
-        EXPECT(RUSHHOPPER_BYTES(rows[i].n, 64, 0, 256) == rows[i].of_16);
-        EXPECT(RUSHHOPPER_BYTES(rows[i].n, 64, 32, 256) == rows[i].of_32);
+        const size_t n = rows[i].n, slots = rows[i].slots, room = rows[i].room;
+        EXPECT(RUSHHOPPER_BYTES(n, slots, 8, room) == rows[i].of_8);
+        EXPECT(RUSHHOPPER_BYTES(n, slots, 16, room) == rows[i].of_16);
+        EXPECT(RUSHHOPPER_BYTES(n, slots, 0, room) == rows[i].of_16);
+        EXPECT(RUSHHOPPER_BYTES(n, slots, 32, room) == rows[i].of_32);
     }
 }
 
@@ -94,6 +100,41 @@ static void a_strip_is_filled_anew(void)
     EXPECT(rack.strip[0] == 1);
     EXPECT(rushhopper_fill_strip_in(&rack, 9) == RUSHHOPPER_ACCEPTED);
     EXPECT(rack.strip[0] == 0);
+}
+
+/* Slots and room end at 1,024, for an opening, a strip and a step; a larger number is not cut to two bytes. */
+static void bands_have_up_to_1024_slots(void)
+{
+    static const struct { size_t slots, room, refusal; } rows[] = {
+        {64, 256, RUSHHOPPER_ACCEPTED}, {65, 256, RUSHHOPPER_ACCEPTED}, {64, 257, RUSHHOPPER_ACCEPTED},
+        {1024, 1024, RUSHHOPPER_ACCEPTED}, {1025, 1024, RUSHHOPPER_BAD_PLAN}, {1024, 1025, RUSHHOPPER_BAD_PLAN},
+        {65537, 1024, RUSHHOPPER_BAD_PLAN}, {1024, 65537, RUSHHOPPER_BAD_PLAN}
+    };
+    size_t i;
+
+    EXPECT(RUSHHOPPER_MOST_REPLICAS == 15 && RUSHHOPPER_MOST_PHASES == 32);
+    EXPECT(RUSHHOPPER_MOST_SLOTS == 1024 && RUSHHOPPER_MOST_ROOM == 1024);
+    for (i = 0; i < sizeof rows / sizeof rows[0]; i++) {
+        const struct rushhopper_numbers plan = {3, 1, rows[i].slots, 2, rows[i].room};
+        const size_t of_strip = plan.slots > 1024 ? RUSHHOPPER_BAD_PLAN : RUSHHOPPER_ACCEPTED;
+        const size_t of_step = rows[i].refusal == RUSHHOPPER_ACCEPTED ? RUSHHOPPER_ACCEPTED : RUSHHOPPER_SPOILED_RECORD;
+        EXPECT(rushhopper_open_in(&band, plan, 0) == rows[i].refusal);
+        band.numbers = plan;
+        EXPECT(rushhopper_fill_strip_in(&band, 0) == of_strip);
+        EXPECT(rushhopper_submit_in(&band, zero, 5) == of_step);
+        EXPECT(rushhopper_crash_in(&band, zero) == of_step);
+    }
+}
+
+/* Slot s begins at entry 32s of the coin table, and so 511 slots on there are the same coins. */
+static void coins_come_again_after_511_slots(void)
+{
+    const size_t phases = long_band.phases;
+
+    EXPECT(rushhopper_open_in(&band, long_band, 0) == RUSHHOPPER_ACCEPTED);
+    EXPECT(band.strip[0] == 1 && band.strip[phases] == 0);
+    EXPECT(memcmp(band.strip, band.strip + 511 * phases, 511 * phases) == 0);
+    EXPECT(memcmp(band.strip, band.strip + 1022 * phases, 2 * phases) == 0);
 }
 
 /* One word less than the records of replicas 0 and 1 need, and only replica 0's is wholly there. */
@@ -165,7 +206,6 @@ static void more_than_16_phases_are_refused(void)
 {
     static const uint8_t phases[] = {0, 16, 17, 33};
     static const size_t refusals[] = {0, 0, RUSHHOPPER_SHORT_TABLE, RUSHHOPPER_BAD_PLAN};
-    const struct rushhopper_numbers rehearsal = {7, 3, 16, 16, 64};
     const struct rushhopper_message last = {RUSHHOPPER_SORT_STATE, {0}, {16}, one};
     struct rushhopper_message past = last;
     size_t i;
@@ -185,11 +225,162 @@ static void more_than_16_phases_are_refused(void)
     EXPECT(rushhopper_fill_strip_in(&largest, 0) == RUSHHOPPER_BAD_PLAN);
 }
 
+/* The kinds of records, by their numbers. */
+enum kind { OPENING, SUBMIT, RELAY, BEGIN, HEAR, ADVANCE, CRASH, RUN_ON, WIDE_OPENING, WIDE_HEAR };
+
+/* A step file that is being written. Where a number of slots fits one byte, it is written in the old kinds unless `wide`. */
+struct step_file { uint8_t bytes[65536]; size_t length; int wide; };
+
+static struct step_file narrow, wide;
+
+static void start_file(struct step_file *file, int is_wide)
+{
+    file->length = 0;
+    file->wide = is_wide;
+}
+
+/* A number in so many bytes, the lowest first. */
+static void put(struct step_file *file, uint64_t number, size_t bytes)
+{
+    for (; bytes > 0; bytes--, number >>= 8)
+        file->bytes[file->length++] = (uint8_t)(number & 255);
+}
+
+/* Of replicas of which none may crash; one phase, coins from entry 0. */
+static void put_opening(struct step_file *file, size_t n, size_t slots, size_t room)
+{
+    const int is_wide = file->wide || slots > 255;
+
+    put(file, is_wide ? WIDE_OPENING : OPENING, 1);
+    put(file, n, 1);
+    put(file, 0, 1);
+    put(file, slots, is_wide ? 2 : 1);
+    put(file, 1, 1);
+    put(file, room, 2);
+    put(file, 0, 2);
+}
+
+/* One of two replicas hears the other. */
+static void put_hear(struct step_file *file, size_t receiver, size_t sort, size_t slot)
+{
+    const int is_wide = file->wide || slot > 255;
+
+    put(file, is_wide ? WIDE_HEAR : HEAR, 1);
+    put(file, receiver, 1);
+    put(file, 1 - receiver, 1);
+    put(file, sort, 1);
+    put(file, slot, is_wide ? 2 : 1);
+    put(file, sort == RUSHHOPPER_SORT_STATE || sort == RUSHHOPPER_SORT_VOTE ? 1 : 0, 1);
+}
+
+static void put_step(struct step_file *file, enum kind kind, size_t who)
+{
+    put(file, kind, 1);
+    put(file, who, 1);
+}
+
+static void put_order(struct step_file *file, enum kind kind, size_t who, uint64_t tag)
+{
+    put_step(file, kind, who);
+    put(file, tag, 8);
+}
+
+/* Two replicas close a slot with the order that is one above its number: they hear each other in every round. 16 records. */
+static void put_slot_of_two(struct step_file *file, size_t slot)
+{
+    size_t sort;
+
+    put_order(file, SUBMIT, 0, slot + 1);
+    put_order(file, RELAY, 1, slot + 1);
+    put_step(file, BEGIN, 0);
+    put_step(file, BEGIN, 1);
+    for (sort = RUSHHOPPER_SORT_PROPOSAL; sort <= RUSHHOPPER_SORT_VOTE; sort++) {
+        put_hear(file, 0, sort, slot);
+        put_hear(file, 1, sort, slot);
+        put_step(file, ADVANCE, 0);
+        put_step(file, ADVANCE, 1);
+    }
+}
+
+/* All slots are closed; then the notice of the last is heard, heard again, and one of a slot behind it. */
+static void put_band_of_two(struct step_file *file, size_t slots)
+{
+    size_t slot;
+
+    put_opening(file, 2, slots, slots);
+    for (slot = 0; slot < slots; slot++)
+        put_slot_of_two(file, slot);
+    put_hear(file, 0, RUSHHOPPER_SORT_NOTICE, slots - 1);
+    put_hear(file, 0, RUSHHOPPER_SORT_NOTICE, slots - 1);
+    put_hear(file, 0, RUSHHOPPER_SORT_NOTICE, slots);
+}
+
+/* The report of such a file, up to the first two entries. */
+static int begins_as_a_band_of_two(const uint8_t *report, size_t slots)
+{
+    static const char form[] = "controllers 2 spare 0\nrefused %zu 18\nrefused %zu 16\nbench 0 lit %zu 1 2";
+    char expected[128];
+
+    snprintf(expected, sizeof expected, form, 16 * slots + 3, 16 * slots + 4, slots);
+    return memcmp(report, expected, strlen(expected)) == 0;
+}
+
+/* A record of kind 0 or 4 and its new form give the same step: both files have the same report. */
+static void wide_records_give_the_same_steps(size_t slots)
+{
+    static uint8_t of_narrow[RUSHHOPPER_REPORT_LENGTH(sizeof narrow.bytes, 2, 300)], of_wide[sizeof of_narrow];
+    const struct rushhopper_slot last = {slots - 1};
+    size_t written;
+
+    start_file(&narrow, 0);
+    start_file(&wide, 1);
+    put_band_of_two(&narrow, slots);
+    put_band_of_two(&wide, slots);
+    written = rushhopper_play_in(&largest, most, narrow.bytes, narrow.length, of_narrow, sizeof of_narrow).written;
+    EXPECT(rushhopper_record_of(&largest, one).slot == slots && rushhopper_entry_of(&largest, one, last) == slots);
+    EXPECT(begins_as_a_band_of_two(of_narrow, slots));
+    EXPECT(narrow.length < wide.length && written < rushhopper_report_length(narrow.length, largest.numbers));
+    EXPECT(rushhopper_play_in(&largest, most, wide.bytes, wide.length, of_wide, sizeof of_wide).written == written);
+    EXPECT(memcmp(of_narrow, of_wide, written) == 0);
+}
+
+/* What a player of at most these numbers says of an opening of one replica alone; 0 if it opens. */
+static size_t refusal_of_opening(struct rushhopper_numbers player, struct step_file *file, size_t slots, size_t room)
+{
+    uint8_t report[64];
+    struct rushhopper_played played;
+
+    file->length = 0;
+    put_opening(file, 1, slots, room);
+    played = rushhopper_play_in(&largest, player, file->bytes, file->length, report, sizeof report);
+    return played.opened ? 0 : (size_t)(report[played.written - 2] - '0');
+}
+
+/* By either kind of opening; a player with the rehearsal program's numbers has 16 slots and room for 64 tags. */
+static void a_player_takes_bands_by_its_numbers(void)
+{
+    static const struct { size_t slots, room, of_rehearsal, of_most; } rows[] = {
+        {16, 64, 0, 0}, {17, 64, 2, 0}, {64, 64, 2, 0}, {65, 64, 2, 0}, {255, 64, 2, 0}, {256, 64, 2, 0}, {1024, 64, 2, 0},
+        {16, 65, 2, 0}, {16, 1024, 2, 0}, {1024, 1024, 2, 0}, {0, 64, 1, 1}, {1025, 64, 1, 1}, {65535, 64, 1, 1},
+        {16, 0, 1, 1}, {16, 1025, 1, 1}, {16, 65535, 1, 1}
+    };
+    size_t i;
+
+    start_file(&narrow, 0);
+    start_file(&wide, 1);
+    for (i = 0; i < sizeof rows / sizeof rows[0]; i++) {
+        EXPECT(refusal_of_opening(rehearsal, &narrow, rows[i].slots, rows[i].room) == rows[i].of_rehearsal);
+        EXPECT(refusal_of_opening(rehearsal, &wide, rows[i].slots, rows[i].room) == rows[i].of_rehearsal);
+        EXPECT(refusal_of_opening(most, &narrow, rows[i].slots, rows[i].room) == rows[i].of_most);
+        EXPECT(refusal_of_opening(most, &wide, rows[i].slots, rows[i].room) == rows[i].of_most);
+    }
+}
+
 /* The most lines that a file can have: a begin is as short as a record can be, and here each is refused. */
 static void no_report_fills_the_length_for_it(void)
 {
-    static uint8_t file[20001], report[RUSHHOPPER_REPORT_LENGTH(sizeof file, 15, 64)];
-    const struct rushhopper_numbers any = {SIZE_MAX, 0, SIZE_MAX, 32, 256};
+    static uint8_t file[20001], report[RUSHHOPPER_REPORT_LENGTH(sizeof file, 15, 1024)];
+    const struct rushhopper_numbers any = {SIZE_MAX, 0, SIZE_MAX, 32, 1024};
     size_t length, i;
 
     for (i = 0; i < sizeof file; i++)
@@ -201,25 +392,27 @@ static void no_report_fills_the_length_for_it(void)
     }
 }
 
-/* The longest line that a replica can have: tags of 20 digits in all of 64 slots. */
+/* The longest line that a replica can have: tags of 20 digits in all of 1,024 slots. Room and log are full then. */
 static void no_long_lines_fill_the_length_for_them(void)
 {
-    static const uint8_t opening[] = {0, 1, 0, 64, 1, 64, 0, 0, 0};
-    static uint8_t file[sizeof opening + 64 * 14], report[RUSHHOPPER_REPORT_LENGTH(sizeof file, 1, 64)];
-    const struct rushhopper_numbers one_of_64 = {1, 0, 64, 1, 64};
-    uint8_t *end = file + sizeof opening;
-    struct rushhopper_played played;
-    unsigned order;
+    static const char full[] = "refused 3074 8\nrefused 3075 11\nbench 0 lit 1024 18446744073709551615 ";
+    static uint8_t report[RUSHHOPPER_REPORT_LENGTH(sizeof narrow.bytes, 1, 1024)];
+    const struct rushhopper_numbers one_of_1024 = {1, 0, 1024, 1, 1024};
+    size_t order, written;
 
-    memcpy(file, opening, sizeof opening);
-    for (order = 0; order < 64; order++) {
-        const uint8_t steps[] = {1, 0, (uint8_t)order, 255, 255, 255, 255, 255, 255, 255, 3, 0, 7, 0};
-        memcpy(end, steps, sizeof steps);
-        end += sizeof steps;
+    start_file(&narrow, 0);
+    put_opening(&narrow, 1, 1024, 1024);
+    for (order = 0; order < 1024; order++) {
+        put_order(&narrow, SUBMIT, 0, UINT64_MAX - order);
+        put_step(&narrow, BEGIN, 0);
+        put_step(&narrow, RUN_ON, 0);
     }
-    played = rushhopper_play_in(&largest, one_of_64, file, sizeof file, report, sizeof report);
-    EXPECT(rushhopper_record_of(&largest, zero).slot == 64);
-    EXPECT(played.written == 22 + 15 + 64 * 21 && played.written < sizeof report);
+    put_order(&narrow, SUBMIT, 0, 1);
+    put_step(&narrow, BEGIN, 0);
+    written = rushhopper_play_in(&largest, one_of_1024, narrow.bytes, narrow.length, report, sizeof report).written;
+    EXPECT(written == 22 + 15 + 16 + 17 + 1024 * 21 && written < rushhopper_report_length(narrow.length, one_of_1024));
+    EXPECT(rushhopper_record_of(&largest, zero).slot == 1024 && rushhopper_known_of(&largest) == 1024);
+    EXPECT(memcmp(report + 22, full, sizeof full - 1) == 0);
 }
 
 /* The message crosses as one struct: each of its parts is asked for. */
@@ -391,6 +584,42 @@ static void slots_are_conducted(void)
     expect_not_conducted(RUSHHOPPER_LOG_FULL);
 }
 
+/* Each order is handed in at another replica and takes the next slot: 30 steps and two relays past slot 255, too. */
+static void a_long_band_is_conducted(void)
+{
+    struct rushhopper_replica who;
+    struct rushhopper_slot slot;
+
+    EXPECT(rushhopper_open_in(&band, long_band, 0) == RUSHHOPPER_ACCEPTED);
+    for (slot.index = 0; slot.index < 300; slot.index++) {
+        who.number = slot.index % 3;
+        EXPECT(rushhopper_submit_in(&band, who, slot.index + 1) == RUSHHOPPER_ACCEPTED);
+        expect_conducted(&band, 30, 2);
+    }
+    for (who.number = 0; who.number < 3; who.number++) {
+        EXPECT(rushhopper_record_of(&band, who).slot == 300);
+        for (slot.index = 0; slot.index < 300; slot.index++)
+            EXPECT(rushhopper_entry_of(&band, who, slot) == slot.index + 1);
+    }
+}
+
+/* Replica 1's notices of a band of which 300 slots are closed; numbers of slots are not cut to one byte or two. */
+static void notices_of_a_long_band_are_heard(void)
+{
+    static const struct { size_t slot, refusal; } rows[] = {
+        {0, RUSHHOPPER_ACCEPTED}, {256, RUSHHOPPER_ACCEPTED}, {256, RUSHHOPPER_ALREADY_HEARD},
+        {299, RUSHHOPPER_ACCEPTED}, {300, RUSHHOPPER_NOT_SENT}, {1023, RUSHHOPPER_NOT_SENT},
+        {1024, RUSHHOPPER_NO_SUCH_MESSAGE}, {65536 + 1, RUSHHOPPER_NO_SUCH_MESSAGE}, {SIZE_MAX, RUSHHOPPER_NO_SUCH_MESSAGE}
+    };
+    struct rushhopper_message notice = {RUSHHOPPER_SORT_NOTICE, {0}, {0}, one};
+    size_t i;
+
+    for (i = 0; i < sizeof rows / sizeof rows[0]; i++) {
+        notice.slot.index = rows[i].slot;
+        EXPECT(rushhopper_hear_in(&band, zero, notice) == rows[i].refusal);
+    }
+}
+
 /* All hold the smaller tag, and one alone the urgent one. */
 static void an_urgent_tag_is_conducted_first(void)
 {
@@ -529,10 +758,13 @@ int main(void)
     nothing_goes_before_an_opening();
     lengths_are_exact(&smallest, alone);
     lengths_are_exact(&rack, three);
+    lengths_are_exact(&band, long_band);
     lengths_are_exact(&largest, most);
     bytes_are_those_of_the_readme();
     an_opening_keeps_its_numbers();
     a_strip_is_filled_anew();
+    bands_have_up_to_1024_slots();
+    coins_come_again_after_511_slots();
     a_crash_marks_its_record();
     readers_stay_in_the_run();
     a_message_is_heard();
@@ -542,6 +774,8 @@ int main(void)
     a_run_on_counts_its_advances();
     urgent_tags_are_proposed_first();
     slots_are_conducted();
+    a_long_band_is_conducted();
+    notices_of_a_long_band_are_heard();
     an_urgent_tag_is_conducted_first();
     any_number_of_running_replicas_is_conducted();
     a_conductor_refuses_in_its_order();
@@ -551,6 +785,11 @@ int main(void)
     a_file_is_played();
     a_player_refuses_what_its_memories_cannot_hold();
     more_than_16_phases_are_refused();
+    wide_records_give_the_same_steps(2);
+    wide_records_give_the_same_steps(255);
+    wide_records_give_the_same_steps(256);
+    wide_records_give_the_same_steps(300);
+    a_player_takes_bands_by_its_numbers();
     no_report_fills_the_length_for_it();
     no_long_lines_fill_the_length_for_them();
     words_are_the_documents();

@@ -24,11 +24,11 @@ pub struct Numbers {
     pub n: usize,
     /// How many of them may crash; 2f + 1 is at most n.
     pub f: usize,
-    /// 1 to 64.
+    /// 1 to 1,024.
     pub slots: usize,
     /// To a slot, 1 to 32. In an opening, and only there, 0 stands for [`Numbers::DEFAULT_PHASES`].
     pub phases: usize,
-    /// How many tags can be known, 1 to 256.
+    /// How many tags can be known, 1 to 1,024.
     pub room: usize,
 }
 
@@ -52,7 +52,7 @@ pub struct Plan {
 
 impl Numbers {
     /// The largest run within the limits.
-    pub const LARGEST: Numbers = Numbers { n: 15, f: 7, slots: 64, phases: 32, room: 256 };
+    pub const LARGEST: Numbers = Numbers { n: 15, f: 7, slots: 1024, phases: 32, room: 1024 };
 
     /// What the rehearsal program has memories for.
     pub const REHEARSAL: Numbers = Numbers { n: 7, f: 3, slots: 16, phases: 16, room: 64 };

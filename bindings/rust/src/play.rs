@@ -3,7 +3,8 @@
 use crate::numbers::Numbers;
 use crate::raw::Memories;
 
-/// Plays a step file on memories for the largest run and answers the report, as the rehearsal program writes it.
+/// Plays a step file on memories for the largest run and answers the report, as the rehearsal program writes it. Openings
+/// and hears may be written in either kind of record, 0 and 4 with one byte for the slots or the slot, 8 and 9 with two.
 pub fn play(file: &[u8]) -> String {
     play_within(Numbers::LARGEST, file)
 }
@@ -24,5 +25,5 @@ fn report_length(file_length: usize, most: Numbers) -> usize {
         10_000..100_000_000 => 20,
         _ => 32,
     };
-    records * line + 24 + most.n * (17 + 21 * most.slots)
+    records * line + 24 + most.n * (19 + 21 * most.slots)
 }

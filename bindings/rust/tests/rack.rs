@@ -57,12 +57,35 @@ fn left_behind() -> Rack {
 #[test]
 fn openings() {
     assert_eq!(Rack::open(plan(4, 2, 1)), Err(Refusal::BadPlan));
-    assert_eq!(Rack::open(plan(5, 2, 65)), Err(Refusal::BadPlan));
+    assert_eq!(Rack::open(plan(5, 2, 1025)), Err(Refusal::BadPlan));
     assert_eq!(Rack::open(plan(usize::MAX, usize::MAX, usize::MAX)), Err(Refusal::BadPlan));
     assert_eq!(Rack::open(Plan { start: 511, ..plan(5, 2, 64) }), Err(Refusal::BadPlan));
     assert_eq!(Rack::open(Plan { numbers: Numbers::default(), start: 0 }), Err(Refusal::BadPlan));
     let largest = Rack::open(Plan { numbers: Numbers::LARGEST, start: 510 });
     assert_eq!(largest.map(|rack| rack.numbers()), Ok(Numbers::LARGEST));
+}
+
+/// A plan of three replicas and so many slots, with room for a tag to each.
+fn band(slots: usize) -> Plan {
+    Plan { numbers: Numbers { n: 3, f: 1, slots, phases: 2, room: slots }, start: 0 }
+}
+
+#[test]
+fn bands_have_up_to_1024_slots() {
+    for slots in [64, 65, 255, 256, 257, 1024] {
+        assert_eq!(Rack::open(band(slots)).map(|rack| rack.numbers()), Ok(band(slots).numbers));
+    }
+    let opened_with = |slots, room| {
+        let numbers = Numbers { slots, room, ..band(4).numbers };
+        Rack::open(Plan { numbers, start: 0 }).map(|_| ())
+    };
+    assert_eq!(opened_with(1024, 1), Ok(()));
+    assert_eq!(opened_with(1, 1024), Ok(()));
+    for beyond in [1025, 65_536, 65_537, usize::MAX] {
+        assert_eq!(opened_with(beyond, 4), Err(Refusal::BadPlan));
+        assert_eq!(opened_with(4, beyond), Err(Refusal::BadPlan));
+    }
+    assert_eq!((Numbers::LARGEST.slots, Numbers::LARGEST.room), (1024, 1024));
 }
 
 #[test]
@@ -335,6 +358,75 @@ fn an_urgent_tag_is_conducted_first() {
     for who in rack.replicas() {
         assert_eq!(rack.log(who), [URGENT + 9, 5]);
     }
+}
+
+/// A band of 1,024 slots of which 301 were conducted, each with an order that was handed in at one replica.
+fn swept() -> Rack {
+    let mut rack = Rack::open(band(1024)).expect("a plan within the limits");
+    for slot in 0..=300 {
+        assert_eq!(rack.submit(Replica(slot % 3), order(slot)), Ok(()));
+        assert_eq!(rack.conduct(), conducted(30, 2));
+    }
+    rack
+}
+
+fn order(slot: usize) -> u64 {
+    1000 + slot as u64
+}
+
+#[test]
+fn a_band_is_conducted_past_slot_255() {
+    let rack = swept();
+    let log: Vec<u64> = (0..=300).map(order).collect();
+    let closed = Record { crashed: false, round: Round::Idle, slot: Slot(301) };
+    for who in rack.replicas() {
+        assert_eq!((rack.record(who), rack.log(who)), (Some(closed), &log[..]));
+        assert_eq!((rack.entry(who, Slot(300)), rack.entry(who, Slot(301))), (Some(1300), None));
+    }
+    assert_eq!(rack.known(), 301);
+}
+
+#[test]
+fn notices_of_slots_past_255() {
+    let mut rack = swept();
+    for (slot, answer) in [
+        (0, Ok(())),
+        (256, Ok(())),
+        (256, Err(Refusal::AlreadyHeard)),
+        (300, Ok(())),
+        (301, Err(Refusal::NotSent)),
+        (1023, Err(Refusal::NotSent)),
+        (1024, Err(Refusal::NoSuchMessage)),
+        (65_536 + 1, Err(Refusal::NoSuchMessage)),
+    ] {
+        assert_eq!(rack.hear(Replica(0), Replica(2), Message::Notice(Slot(slot))), answer);
+    }
+}
+
+/// The conductor let each hear each other.
+#[test]
+fn messages_of_slots_past_255() {
+    let mut rack = swept();
+    let phase = Phase(1);
+    let rows = [(255, Refusal::AlreadyHeard), (300, Refusal::AlreadyHeard), (301, Refusal::NotSent)];
+    for (slot, refusal) in rows.map(|(slot, refusal)| (Slot(slot), refusal)) {
+        for message in [Message::Proposal(slot), Message::State(slot, phase), Message::Vote(slot, phase)] {
+            assert_eq!(rack.hear(Replica(1), Replica(2), message), Err(refusal));
+        }
+    }
+}
+
+/// Of 256 slots: past the last of them nothing is begun or conducted.
+#[test]
+fn a_band_is_full() {
+    let mut rack = Rack::open(band(256)).expect("a plan within the limits");
+    for slot in 0..256 {
+        assert_eq!(rack.submit(Replica(0), order(slot)), Ok(()));
+        assert_eq!(rack.conduct(), conducted(30, 2));
+    }
+    assert_eq!(rack.submit(Replica(0), 7), Err(Refusal::TagRoomFull));
+    assert_eq!(rack.begin(Replica(0)), Err(Refusal::LogFull));
+    not_conducted(&mut rack, Refusal::LogFull);
 }
 
 /// In every rack with any number of crashed replicas that a quorum allows; the tag is held by one, or by all.
