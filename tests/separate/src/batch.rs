@@ -6,6 +6,7 @@ use crate::cases::{Case, Work};
 use crate::coin;
 use crate::compare::{compare_play, Difference, Pair};
 use crate::library;
+use crate::long_runs::is_long;
 use crate::memories::{Memories, Record};
 use crate::numbers::Numbers;
 use crate::refusal::Refusal;
@@ -87,6 +88,7 @@ impl Case {
         match self.work {
             Work::Play { .. } | Work::Call(Call::Open { .. } | Call::Conduct) | Work::Steps(_) => 1,
             Work::Crash { .. } => 128,
+            _ if is_long(&self.numbers) => 4,
             _ => 16,
         }
     }

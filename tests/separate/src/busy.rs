@@ -11,16 +11,21 @@ struct Sides {
     odd: usize,
 }
 
-/// A run of three, opened by this plan and busy in slot 0 for so many phases. In the last phase of the run its advances are
-/// refused with 15.
+/// A run of three, opened by this plan and busy in slot 0 for so many phases.
 pub fn busy_script(plan: &Numbers, start: usize, phases: usize) -> Script {
     let mut script = Script::opened(plan, start);
-    let mut sides = exchange(&mut script);
-    for phase in 1..=phases {
-        vote(&mut script, phase, sides);
-        sides = go_on(&mut script, phase, sides);
-    }
+    be_busy(&mut script, phases);
     script
+}
+
+/// Three replicas that are idle at one slot, where neither tag 5 nor 9 is known and none that is pending ranks before them,
+/// are busy in it for so many phases. In the last phase of the run their advances are refused with 15.
+pub fn be_busy(script: &mut Script, phases: usize) {
+    let mut sides = exchange(script);
+    for phase in 1..=phases {
+        vote(script, phase, sides);
+        sides = go_on(script, phase, sides);
+    }
 }
 
 /// All hear each other in this phase. Two of the three states are equal: all vote for that, and it is the outcome.
@@ -33,9 +38,9 @@ pub fn settle(script: &mut Script, phase: usize) {
     }
 }
 
-/// Of slot 0.
+/// Of the slot that they are in, 0 or 1. Nobody has closed it.
 fn coin(script: &Script, phase: usize) -> Option<u8> {
-    script.memories.strip.get(script.numbers.coin_cell(0, phase)).copied()
+    script.memories.strip.get(script.numbers.coin_cell(script.slot(0), phase)).map(|coin| coin % 2)
 }
 
 /// Each receiver hears one message, with which it has heard a quorum, and all advance.

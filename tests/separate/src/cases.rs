@@ -2,11 +2,15 @@
 
 use crate::call::{Call, Done};
 use crate::conductor::{Conducted, Plan};
-use crate::memories::{Memories, FIND, IDLE, ONE, STATE, ZERO};
+use crate::filled::{by_rank, everyone, fill, Known};
+use crate::long_runs::{go_through, CatchUp};
+use crate::memories::{bit, Memories, FIND, IDLE, ONE, STATE, ZERO};
 use crate::numbers::{Numbers, Sort, ROUNDS};
+use crate::random::Random;
 use crate::refusal::Refusal;
 use crate::rules::{Advanced, Ran, Stop, Submitted};
 use crate::script::{order, Fill, Script};
+use crate::step_file::Form;
 
 pub enum Work {
     FillStrip {
@@ -47,7 +51,7 @@ pub struct Kind {
 
 impl Kind {
     pub fn named(name: &str) -> Option<&'static Kind> {
-        KINDS.iter().find(|kind| kind.name == name)
+        KINDS.iter().chain(&LONG_KINDS).find(|kind| kind.name == name)
     }
 
     pub fn case(&self, numbers: &Numbers, fill: Fill) -> Case {
@@ -111,6 +115,23 @@ pub static KINDS: [Kind; 24] = [
     kind("conduct-steps", "the same steps, one by one", conduct_steps, |_| true),
     kind("crash", "crash", crash, |_| true),
     kind("play", "play, the step file of such a run", play, |_| true),
+];
+
+/// Those of the longest run. "In order" are tags that were submitted in the order of their ranks, which is that of the logs.
+pub static LONG_KINDS: [Kind; 7] = [
+    kind("begin-in-order", "begin, in order", begin_in_order, |did| matches!(did, Ok(Done::Begun(_)))),
+    kind("begin-shuffled", "begin, shuffled", begin_shuffled, |did| matches!(did, Ok(Done::Begun(_)))),
+    kind("submit-last", "submit, the last new tag", submit_last, |did| {
+        *did == Ok(Done::Submitted(Submitted::New))
+    }),
+    kind("submit-held", "submit, held (refused)", submit_held, |did| *did == Err(Refusal::Held)),
+    kind("conduct-in-order", "conduct, a whole slot, in order", conduct_in_order, |did| {
+        matches!(did, Ok(Done::Conducted(Conducted { relays: 1.., .. })))
+    }),
+    kind("conduct-shuffled", "conduct, a whole slot, shuffled", conduct_shuffled, |did| {
+        matches!(did, Ok(Done::Conducted(Conducted { relays: 1.., .. })))
+    }),
+    kind("play-long", "play, a step file of 1,024 slots", play_long, |_| true),
 ];
 
 /// From another start than the script's, so that cells change.
@@ -289,19 +310,73 @@ fn crash(numbers: &Numbers, fill: Fill) -> (Script, Work) {
 /// The file of the whole script, which the opening in it starts anew.
 fn play(numbers: &Numbers, fill: Fill) -> (Script, Work) {
     let script = Script::filled(numbers, fill);
-    let file = script.file();
+    let file = script.file(|| Form::Old);
+    (script, Work::Play { file })
+}
+
+/// How the tags of a long run were submitted.
+#[derive(PartialEq)]
+enum Submits {
+    InOrder,
+    Shuffled,
+}
+
+/// The first-ranked tags stand in the closed slots; the others are held by these.
+fn long(numbers: &Numbers, Fill { known, closed }: Fill, submits: Submits, holders: u16) -> Script {
+    let mut script = Script::open(numbers);
+    let mut tags: Vec<Known> = (1..=known).map(|second| (order(second), holders)).collect();
+    if submits == Submits::Shuffled {
+        Random::new(1).shuffle(&mut tags);
+    }
+    fill(numbers, &tags, &by_rank(&tags, closed), &mut script.memories);
+    script
+}
+
+fn begin_in_order(numbers: &Numbers, fill: Fill) -> (Script, Work) {
+    (long(numbers, fill, Submits::InOrder, everyone(numbers)), Work::Call(Call::Begin { who: 0 }))
+}
+
+fn begin_shuffled(numbers: &Numbers, fill: Fill) -> (Script, Work) {
+    (long(numbers, fill, Submits::Shuffled, everyone(numbers)), Work::Call(Call::Begin { who: 0 }))
+}
+
+fn submit_last(numbers: &Numbers, fill: Fill) -> (Script, Work) {
+    let call = Call::Submit { who: 1, tag: order(fill.known + 1) };
+    (long(numbers, fill, Submits::InOrder, everyone(numbers)), Work::Call(call))
+}
+
+fn submit_held(numbers: &Numbers, fill: Fill) -> (Script, Work) {
+    let call = Call::Submit { who: 1, tag: order(fill.known) };
+    (long(numbers, fill, Submits::InOrder, everyone(numbers)), Work::Call(call))
+}
+
+/// Replica 0 alone holds the tag that is left.
+fn conduct_in_order(numbers: &Numbers, fill: Fill) -> (Script, Work) {
+    (long(numbers, fill, Submits::InOrder, bit(0)), Work::Call(Call::Conduct))
+}
+
+fn conduct_shuffled(numbers: &Numbers, fill: Fill) -> (Script, Work) {
+    (long(numbers, fill, Submits::Shuffled, bit(0)), Work::Call(Call::Conduct))
+}
+
+/// Three replicas through so many slots, most of them empty; records of the new kinds.
+fn play_long(numbers: &Numbers, fill: Fill) -> (Script, Work) {
+    let mut script = Script::open(&Numbers { n: 3, f: 1, ..*numbers });
+    go_through(&mut script, 0..fill.closed, CatchUp::Advance);
+    let file = script.file(|| Form::New);
     (script, Work::Play { file })
 }
 
 #[cfg(test)]
 mod tests {
     use super::*;
+    use crate::step_file::REHEARSAL_BYTES;
 
     #[test]
     fn calls_do_what_they_are_measured_for() {
         for n in 3..=15 {
             let numbers = Numbers { n, f: (n - 1) / 2, slots: 4, phases: 2, room: 32 };
-            for kind in &KINDS {
+            for kind in KINDS.iter().chain(&LONG_KINDS) {
                 let Case { name, mut memories, work, does, .. } =
                     kind.case(&numbers, Fill { known: 4, closed: 2 });
                 if let Work::Call(call) = work {
@@ -309,5 +384,14 @@ mod tests {
                 }
             }
         }
+    }
+
+    /// All its slots are closed, and it fills more bytes than the rehearsal program takes.
+    #[test]
+    fn the_long_file_is_one() {
+        let numbers = Numbers { n: 3, f: 1, slots: 1024, phases: 16, room: 1024 };
+        let (script, work) = play_long(&numbers, Fill { known: 8, closed: 1024 });
+        assert_eq!((script.memories.known(), script.slot(0), script.slot(2)), (8, 1024, 1024));
+        assert!(matches!(work, Work::Play { file } if file.len() >= REHEARSAL_BYTES && file[0] == 8));
     }
 }

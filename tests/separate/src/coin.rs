@@ -104,7 +104,7 @@ mod tests {
     #[test]
     fn refuses_in_order() {
         assert_eq!(fill_strip(1, 0, 0, &mut []), Err(Refusal::BadPlan));
-        assert_eq!(fill_strip(65, 1, 0, &mut [0; 65]), Err(Refusal::BadPlan));
+        assert_eq!(fill_strip(1025, 1, 0, &mut [0; 1025]), Err(Refusal::BadPlan));
         assert_eq!(fill_strip(1, 1, 511, &mut [0]), Err(Refusal::BadPlan));
         assert_eq!(fill_strip(2, 2, 510, &mut [0; 3]), Err(Refusal::ShortTable));
     }

@@ -4,13 +4,13 @@
 use crate::call::Done;
 use crate::conductor::Conducted;
 use crate::memories::{Memories, Record, IDLE};
-use crate::numbers::{Message, Numbers, Sort, MOST_REPLICAS};
+use crate::numbers::{Message, Numbers, Sort, MOST_REPLICAS, MOST_SLOTS};
 use crate::rank::{first_ranked, is_urgent, rank};
 use crate::refusal::Refusal;
 use crate::tally::{occurred, Facts};
 
 /// What a run can meet.
-pub const EVENTS: [&str; 30] = [
+pub const EVENTS: [&str; 34] = [
     "conducted without a relay",
     "conducted with L - 1 relays",
     "conducted with fewer relays than L - 1",
@@ -21,6 +21,9 @@ pub const EVENTS: [&str; 30] = [
     "conducted with f 0",
     "conducted with one phase",
     "conducted in the last slot",
+    "conducted in a slot above 63",
+    "conducted in a slot above 255",
+    "conducted in slot 1,023",
     "conducted with a crashed one in an earlier slot",
     "conducted with a crashed one in a round",
     "conducted a tag that is not the oldest known",
@@ -41,6 +44,7 @@ pub const EVENTS: [&str; 30] = [
     "conduct, refused 22: a crashed one's proposal alone",
     "conduct, refused 22: nothing pending either",
     "conduct, refused 11: nothing pending either",
+    "conduct, refused 11: 1,024 slots closed",
 ];
 
 /// What only damaged memories can meet. In a run a lit one that is idle at a slot has sent nothing of it, and one
@@ -81,9 +85,10 @@ pub fn met(
         Err(Refusal::ShortTable) => short(numbers, before),
         Err(Refusal::TooFewLit) => Scene::of(numbers, before).too_few(),
         Err(Refusal::NotLevel) => Scene::of(numbers, before).not_level(),
-        Err(Refusal::LogFull) => {
-            vec![("conduct, refused 11: nothing pending either", Scene::of(numbers, before).tag.is_none())]
-        }
+        Err(Refusal::LogFull) => vec![
+            ("conduct, refused 11: nothing pending either", Scene::of(numbers, before).tag.is_none()),
+            ("conduct, refused 11: 1,024 slots closed", numbers.slots == MOST_SLOTS),
+        ],
         _ => Vec::new(),
     })
 }
@@ -190,6 +195,9 @@ impl Scene<'_> {
         vec![
             ("conducted with one phase", self.numbers.phases == 1),
             ("conducted in the last slot", self.slot + 1 == self.numbers.slots && self.slot > 0),
+            ("conducted in a slot above 63", self.slot > 63),
+            ("conducted in a slot above 255", self.slot > 255),
+            ("conducted in slot 1,023", self.slot + 1 == MOST_SLOTS),
             ("conducted with a crashed one in an earlier slot", behind),
             ("conducted with a crashed one in a round", crashed.any(|record| record.round != IDLE)),
         ]

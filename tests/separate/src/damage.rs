@@ -1,7 +1,7 @@
 //! Memories that no run leaves behind: junk, bits of replicas that are not there, spoiled records, memories that are short.
 
 use crate::memories::{bit, Memories, Record, IDLE, ONE, STATE, UNDECIDED, VOTE, ZERO};
-use crate::numbers::{Message, Numbers, Sort, RECORDS};
+use crate::numbers::{Message, Numbers, Sort, MOST_PHASES, MOST_SLOTS, RECORDS};
 use crate::orders::Orders;
 use crate::random::Random;
 use crate::rank::{first_ranked, URGENT};
@@ -291,8 +291,8 @@ fn above_room(random: &mut Random, numbers: &Numbers) -> usize {
 
 /// A record of which each word is within its range, at its end or beyond it.
 pub fn any_record(random: &mut Random, numbers: &Numbers) -> Record {
-    let slots = numbers.slots.min(64);
-    let phases = numbers.phases.min(32);
+    let slots = numbers.slots.min(MOST_SLOTS);
+    let phases = numbers.phases.min(MOST_PHASES);
     Record {
         crashed: random.pick(&[0, 0, 0, 1, 2, u16::MAX]),
         round: random.below(6) as u16,

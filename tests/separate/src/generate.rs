@@ -4,6 +4,7 @@
 use crate::busy::{busy_script, settle};
 use crate::call::Call;
 use crate::coin::PATTERN;
+use crate::long_runs::is_long;
 use crate::memories::{Memories, FIND, IDLE};
 use crate::numbers::{
     Message, Numbers, Sort, MOST_PHASES, MOST_REPLICAS, MOST_ROOM, MOST_SLOTS, ROUNDS, USUAL_PHASES,
@@ -13,7 +14,7 @@ use crate::random::Random;
 use crate::rank::URGENT;
 use crate::rules;
 use crate::script::{order, Script};
-use crate::step_file::{body_length, write_record, REHEARSAL_BYTES};
+use crate::step_file::{body_length, write_record, Form, REHEARSAL_BYTES};
 
 /// What differs from one session to the next, so that agreement, quarrel, crashes and stragglers all occur.
 pub struct Habits {
@@ -97,15 +98,15 @@ pub fn strange_numbers(random: &mut Random, numbers: &Numbers) -> Numbers {
     strange
 }
 
-/// Numbers at and past each limit.
+/// Numbers at and past each limit, mostly slots: of document 01, of the rehearsal program and of document 02.
 pub fn limit_plan(random: &mut Random) -> Numbers {
     let mut plan = small_plan(random, &Numbers { n: 7, f: 3, slots: 4, phases: 4, room: 4 });
-    match random.below(5) {
+    match random.below(10) {
         0 => plan.n = random.pick(&[0, 7, 8, MOST_REPLICAS, MOST_REPLICAS + 1, 255]),
         1 => plan.f = random.pick(&[plan.n / 2, plan.n / 2 + 1, plan.n, 127, 128, 255]),
-        2 => plan.slots = random.pick(&[0, 16, 17, MOST_SLOTS, MOST_SLOTS + 1, 255]),
-        3 => plan.phases = random.pick(&[0, 16, 17, MOST_PHASES, MOST_PHASES + 1, 255]),
-        _ => plan.room = random.pick(&[0, 64, 65, MOST_ROOM, MOST_ROOM + 1, 65_535]),
+        2 | 3 => plan.phases = random.pick(&[0, 16, 17, MOST_PHASES, MOST_PHASES + 1, 255]),
+        4 | 5 => plan.room = random.pick(&[0, 64, 65, 256, 257, MOST_ROOM, MOST_ROOM + 1, 65_535]),
+        _ => plan.slots = random.pick(&[0, 16, 17, 17, 64, 65, 255, 256, MOST_SLOTS, MOST_SLOTS + 1, 65_535]),
     }
     plan
 }
@@ -118,8 +119,9 @@ pub fn start(random: &mut Random) -> usize {
 /// Slots, phases and start of a strip: one of them may be at or beyond its limit. A third of the strips end on the coin
 /// table's last entry, where that can be, half of these in rows of a byte at most.
 pub fn strip_numbers(random: &mut Random) -> (usize, usize, usize) {
+    let most = random.pick(&[64, MOST_SLOTS]);
     let (mut slots, mut phases, mut start) =
-        (random.between(1, MOST_SLOTS), random.between(1, MOST_PHASES), random.below(PATTERN));
+        (random.between(1, most), random.between(1, MOST_PHASES), random.below(PATTERN));
     match random.below(6) {
         0 => slots = random.around(MOST_SLOTS),
         1 => phases = random.around(MOST_PHASES),
@@ -134,17 +136,18 @@ pub fn strip_numbers(random: &mut Random) -> (usize, usize, usize) {
     (slots, phases, start)
 }
 
-/// Fewer slots, and the start from which they end on the table's last entry. 16 slots of 32 phases go one further.
+/// 16 slots at most, and the start from which they end on the table's last entry. 16 of 32 phases go one further.
 fn ending_last(slots: usize, phases: usize) -> (usize, usize) {
-    let slots = slots.div_ceil(4);
+    let slots = slots.min(1 + slots % 16);
     (slots, PATTERN.saturating_sub(32 * (slots - 1) + phases))
 }
 
-/// A call that the run accepts, if a few draws find one.
+/// A call that the run accepts, if a few draws find one. The draws can share a copy: a refused call changes nothing.
 pub fn likely_call(random: &mut Random, numbers: &Numbers, habits: &Habits, memories: &Memories) -> Call {
     let mut call = drawn_call(random, numbers, habits, memories);
+    let mut copy = None;
     for _ in 0..random.below(6) {
-        if call.make(numbers, &mut memories.clone()).is_ok() {
+        if call.make(numbers, copy.get_or_insert_with(|| memories.clone())).is_ok() {
             break;
         }
         call = drawn_call(random, numbers, habits, memories);
@@ -237,13 +240,22 @@ fn any_hear(
     } else {
         random.pick(&[Sort::Proposal, Sort::State, Sort::Vote])
     };
-    let slot = if random.one_in(2) { usize::from(record.slot) } else { random.below(numbers.slots) };
+    let slot = if random.one_in(2) { usize::from(record.slot) } else { any_slot(random, numbers) };
     let phase = any_phase(random, sort, numbers.phases.min(3));
     Call::Hear { receiver, sender, sort: sort as usize, slot, phase }
 }
 
+/// Any slot; half the time in a long run one of its edges, or the one behind the last.
+pub fn any_slot(random: &mut Random, numbers: &Numbers) -> usize {
+    if is_long(numbers) && random.one_in(2) {
+        random.pick(&[1, 63, 64, 255, 256, numbers.slots - 1, numbers.slots])
+    } else {
+        random.below(numbers.slots)
+    }
+}
+
 /// A phase that a message of the sort can have, `most` at the most.
-fn any_phase(random: &mut Random, sort: Sort, most: usize) -> usize {
+pub fn any_phase(random: &mut Random, sort: Sort, most: usize) -> usize {
     if sort.has_phases() {
         random.between(1, most)
     } else {
@@ -311,9 +323,14 @@ pub fn busy_session(random: &mut Random, most: &Numbers) -> Vec<u8> {
     drawn_on(random, script, steps)
 }
 
+/// Either form of a record that has two, so that a file mixes them.
+pub fn form(random: &mut Random) -> Form {
+    random.pick(&[Form::Old, Form::New])
+}
+
 /// The script's calls, and so many that are drawn, most of them accepted.
-fn drawn_on(random: &mut Random, script: Script, steps: usize) -> Vec<u8> {
-    let (numbers, mut file) = (script.numbers, script.file());
+pub fn drawn_on(random: &mut Random, script: Script, steps: usize) -> Vec<u8> {
+    let (numbers, mut file) = (script.numbers, script.file(|| form(random)));
     let mut memories = script.memories;
     let habits = Habits::draw(random, numbers.n);
     for _ in 0..steps {
@@ -324,7 +341,7 @@ fn drawn_on(random: &mut Random, script: Script, steps: usize) -> Vec<u8> {
             likely_call(random, &numbers, &habits, &memories)
         };
         if call.make(&numbers, &mut memories).is_ok() || random.one_in(16) {
-            write_record(&mut file, &call);
+            write_record(&mut file, &call, form(random));
         }
     }
     file
@@ -345,9 +362,9 @@ pub fn left_behind_session(random: &mut Random, most: &Numbers) -> Vec<u8> {
         script.begin(camp.clone());
         script.go_on(camp.clone(), &ROUNDS);
     }
-    let mut file = script.file();
+    let mut file = script.file(|| form(random));
     for _ in 0..random.between(4, 16) {
-        write_record(&mut file, &call_left_behind(random, slots, camp.end, n));
+        write_record(&mut file, &call_left_behind(random, slots, camp.end, n), form(random));
     }
     file
 }
@@ -376,10 +393,10 @@ pub fn wild_session(random: &mut Random, most: &Numbers) -> Vec<u8> {
     let mut file = Vec::new();
     if !random.one_in(4) {
         let plan = if random.one_in(3) { limit_plan(random) } else { small_plan(random, most) };
-        write_record(&mut file, &Call::Open { plan, start: random.below(PATTERN) });
+        write_record(&mut file, &Call::Open { plan, start: random.below(PATTERN) }, form(random));
     }
     for _ in 0..random.below(80) {
-        let kind = if random.one_in(200) { random.below(256) } else { random.below(8) };
+        let kind = if random.one_in(200) { random.below(256) } else { random.below(10) };
         file.push(kind as u8);
         for _ in 0..body_length(kind as u8).unwrap_or(3) {
             let byte = if random.one_in(6) { random.below(256) } else { random.below(5) };
@@ -393,9 +410,9 @@ pub fn wild_session(random: &mut Random, most: &Numbers) -> Vec<u8> {
 pub fn broken_session(random: &mut Random, most: &Numbers) -> Vec<u8> {
     let mut file = session(random, most);
     match random.below(6) {
-        0 => file.truncate(random.below(file.len() + 1)),
-        1 => drop(file.drain(..9)),
-        2 => file.push(random.between(8, 255) as u8),
+        0 => cut(random, &mut file),
+        1 => drop(file.drain(..record_places(&file)[1])),
+        2 => file.push(unknown_kind(random)),
         3 => put_in(random, &mut file),
         4 => file = [openings(random), file].concat(),
         _ => {
@@ -406,12 +423,35 @@ pub fn broken_session(random: &mut Random, most: &Numbers) -> Vec<u8> {
     file
 }
 
+/// At the start, anywhere, or within a new opening or hear that is put at the end.
+fn cut(random: &mut Random, file: &mut Vec<u8>) {
+    match random.below(4) {
+        0 => file.clear(),
+        1 => file.truncate(random.below(file.len() + 1)),
+        _ => {
+            let kind = random.pick(&[8, 9]);
+            let whole = body_length(kind).expect("a known kind");
+            file.push(kind);
+            file.resize(file.len() + random.below(whole), 0);
+        }
+    }
+}
+
+/// Mostly the first one.
+fn unknown_kind(random: &mut Random) -> u8 {
+    if random.one_in(2) {
+        10
+    } else {
+        random.between(10, 255) as u8
+    }
+}
+
 /// Openings at and past the limits.
 fn openings(random: &mut Random) -> Vec<u8> {
     let mut file = Vec::new();
-    for _ in 0..random.between(1, 6) {
+    for _ in 0..random.between(1, 12) {
         let plan = limit_plan(random);
-        write_record(&mut file, &Call::Open { plan, start: start(random) });
+        write_record(&mut file, &Call::Open { plan, start: start(random) }, form(random));
     }
     file
 }
@@ -419,7 +459,7 @@ fn openings(random: &mut Random) -> Vec<u8> {
 /// Puts an opening or an unknown kind at the start of a record in the middle.
 fn put_in(random: &mut Random, file: &mut Vec<u8>) {
     let place = random.pick(&record_places(file));
-    let extra = if random.one_in(4) { vec![random.between(8, 255) as u8] } else { openings(random) };
+    let extra = if random.one_in(4) { vec![unknown_kind(random)] } else { openings(random) };
     file.splice(place..place, extra);
 }
 
@@ -447,11 +487,11 @@ pub fn long_session(random: &mut Random, most: &Numbers) -> Vec<u8> {
         } else {
             Call::Submit { who: random.below(9), tag: random.below(90) as u64 }
         };
-        write_record(&mut file, &call);
+        write_record(&mut file, &call, Form::Old);
     }
     pad_to(&mut file, REHEARSAL_BYTES - random.pick(&[0, 0, 2, 3, 5, 8, 9]));
     for _ in 0..random.below(6) {
-        write_record(&mut file, &Call::Submit { who: 0, tag: random.word() });
+        write_record(&mut file, &Call::Submit { who: 0, tag: random.word() }, Form::Old);
     }
     file
 }
@@ -459,9 +499,9 @@ pub fn long_session(random: &mut Random, most: &Numbers) -> Vec<u8> {
 /// Pads with records up to a length that is at least 9 away.
 fn pad_to(file: &mut Vec<u8>, length: usize) {
     if (length - file.len()) % 2 == 1 {
-        write_record(file, &Call::Open { plan: Numbers::default(), start: 0 });
+        write_record(file, &Call::Open { plan: Numbers::default(), start: 0 }, Form::Old);
     }
     while file.len() < length {
-        write_record(file, &Call::Begin { who: 0 });
+        write_record(file, &Call::Begin { who: 0 }, Form::Old);
     }
 }

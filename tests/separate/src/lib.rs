@@ -1,7 +1,8 @@
-//! Document 01's order log with requests 1 to 5 of document 02, written from the documents and apart from the library, and
+//! Document 01's order log with requests 1 to 6 of document 02, written from the documents and apart from the library, and
 //! what compares the two: by whole step files (the program `sessions`), by direct calls on ordinary and damaged memories
 //! (`calls`), and in time (`bench`).
 
+pub mod bands;
 #[cfg(feature = "library")]
 pub mod batch;
 pub mod busy;
@@ -15,9 +16,13 @@ pub mod compare;
 pub mod conducted;
 pub mod conductor;
 pub mod damage;
+pub mod filled;
+#[cfg(feature = "library")]
+pub mod fixed;
 pub mod generate;
 #[cfg(feature = "library")]
 pub mod library;
+pub mod long_runs;
 pub mod memories;
 pub mod notices;
 pub mod numbers;

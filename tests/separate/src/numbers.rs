@@ -2,14 +2,14 @@
 
 /// "Controllers n: 1 to 15, numbered from 0."
 pub const MOST_REPLICAS: usize = 15;
-/// "Slots: 1 to 64, numbered from 0."
-pub const MOST_SLOTS: usize = 64;
+/// "Slots: 1 to 64, numbered from 0."; "The slot limit becomes 1,024".
+pub const MOST_SLOTS: usize = 1024;
 /// "Phases: 1 to 32, numbered from 1".
 pub const MOST_PHASES: usize = 32;
 /// "Labs leave an opening's phase limit at 0 ... There 0 now stands for 16.", "and only there."
 pub const USUAL_PHASES: usize = 16;
-/// "Tag room: 1 to 256 known orders."
-pub const MOST_ROOM: usize = 256;
+/// "Tag room: 1 to 256 known orders."; "the tag room may be up to 1,024 as well".
+pub const MOST_ROOM: usize = 1024;
 
 /// Laid out as the header's `rushhopper_numbers`, so that it crosses the boundary as it stands.
 #[repr(C)]

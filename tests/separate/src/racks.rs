@@ -1,7 +1,6 @@
 //! Runs that lead up to the conductor: to a level rack, or to one that falls short of it in some way.
 
-use crate::coin::PATTERN;
-use crate::numbers::{Numbers, Sort, ROUNDS};
+use crate::numbers::{Sort, ROUNDS};
 use crate::orders::Orders;
 use crate::random::Random;
 use crate::script::{order, Script};
@@ -54,16 +53,16 @@ pub const LEADS: [(&str, Lead); 13] = [
         script.go_on(script.lit(), &ROUNDS);
     }),
     ("full logs", |_, script| {
-        for _ in 0..script.numbers.slots {
+        // of a long run only the last slots
+        for _ in (script.slot(0)..script.numbers.slots).take(8) {
             script.share(unknown(script), script.lit());
             script.conduct();
         }
     }),
 ];
 
-/// A run from its opening on, and how it was led. Before that the conductor closes slots, and replicas crash.
-pub fn drawn_rack(random: &mut Random, plan: &Numbers) -> (Vec<&'static str>, Script) {
-    let mut script = Script::opened(plan, random.below(PATTERN));
+/// Leads on a run in which all are idle, and answers how. Before that the conductor closes slots, and replicas crash.
+pub fn lead_on(random: &mut Random, mut script: Script) -> (Vec<&'static str>, Script) {
     for _ in 0..random.below(script.numbers.slots.min(4)) {
         hand_out(random, &mut script);
         script.conduct();

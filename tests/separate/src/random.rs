@@ -32,6 +32,12 @@ impl Random {
         choices[self.below(choices.len())]
     }
 
+    pub fn shuffle<T>(&mut self, cells: &mut [T]) {
+        for place in (1..cells.len()).rev() {
+            cells.swap(place, self.below(place + 1));
+        }
+    }
+
     /// A number at, around or far beyond a limit, or an ordinary one.
     pub fn around(&mut self, limit: usize) -> usize {
         let far = [1 << 32, 1 << 62, 1 << 63, usize::MAX - 1, usize::MAX];

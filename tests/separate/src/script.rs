@@ -4,7 +4,7 @@ use crate::call::Call;
 use crate::memories::{Memories, EXCHANGE, FIND, STATE, VOTE};
 use crate::numbers::{Numbers, Sort, ROUNDS};
 use crate::rules;
-use crate::step_file::write_record;
+use crate::step_file::{write_record, Form};
 use std::ops::Range;
 
 /// How far a run has come when a call is measured.
@@ -35,10 +35,14 @@ impl Script {
     /// By a plan within the limits.
     pub fn opened(plan: &Numbers, start: usize) -> Script {
         let numbers = rules::planned(plan, start).expect("a plan within the limits");
-        let mut script =
-            Script { numbers, memories: Memories::of_run(&numbers), calls: Vec::new(), refused: None };
+        let mut script = Script::going_on(&numbers, Memories::of_run(&numbers));
         script.step(Call::Open { plan: *plan, start });
         script
+    }
+
+    /// Goes on with a run, wherever it stands.
+    pub fn going_on(numbers: &Numbers, memories: Memories) -> Script {
+        Script { numbers: *numbers, memories, calls: Vec::new(), refused: None }
     }
 
     /// All replicas hold all known tags, and the oldest of these stand in the closed slots.
@@ -68,9 +72,10 @@ impl Script {
         self.calls.push(call);
     }
 
-    pub fn file(&self) -> Vec<u8> {
+    /// Each record has the form that is chosen for it, where it has several.
+    pub fn file(&self, mut form: impl FnMut() -> Form) -> Vec<u8> {
         let mut file = Vec::new();
-        self.calls.iter().for_each(|call| write_record(&mut file, call));
+        self.calls.iter().for_each(|call| write_record(&mut file, call, form()));
         file
     }
 
@@ -135,7 +140,11 @@ impl Script {
 
     /// One message of this phase of the receiver's slot.
     pub fn hear_in(&mut self, phase: usize, receiver: usize, sender: usize, sort: Sort) {
-        let slot = self.slot(receiver);
+        self.hear_of(self.slot(receiver), phase, receiver, sender, sort);
+    }
+
+    /// One message of any slot and phase.
+    pub fn hear_of(&mut self, slot: usize, phase: usize, receiver: usize, sender: usize, sort: Sort) {
         self.step(Call::Hear { receiver, sender, sort: sort as usize, slot, phase });
     }
 

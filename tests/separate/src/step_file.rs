@@ -12,6 +12,13 @@ pub const REHEARSAL: Numbers = Numbers { n: 7, f: 3, slots: 16, phases: 16, room
 /// "It takes the first 65,536 bytes of its input and reads no more".
 pub const REHEARSAL_BYTES: usize = 65_536;
 
+/// An opening and a hear have two forms, with one byte for the slot count or slot and with two. Other records have one form.
+#[derive(Clone, Copy, Debug, PartialEq, Eq)]
+pub enum Form {
+    Old,
+    New,
+}
+
 /// The opened run, if any, and the report.
 pub struct Played {
     pub opened: Option<Numbers>,
@@ -26,16 +33,16 @@ pub fn report(input: &[u8]) -> Vec<u8> {
 
 /// Plays a step file on memories for at most the numbers `most`.
 pub fn play(most: &Numbers, file: &[u8], memories: &mut Memories) -> Played {
-    play_seen(most, file, memories, |_, _, _, _| ())
+    play_seen(most, file, memories, |_, _, _, _, _| ())
 }
 
-/// As `play`; `seen` is shown each whole record, the run's numbers (zeros if none is open), what came of the record and the
-/// memories after it.
+/// As `play`; `seen` is shown each whole record by its kind and its call, the run's numbers (zeros if none is open), what came
+/// of the record and the memories after it.
 pub fn play_seen(
     most: &Numbers,
     file: &[u8],
     memories: &mut Memories,
-    mut seen: impl FnMut(&Call, &Numbers, &Result<Done, Refusal>, &Memories),
+    mut seen: impl FnMut(u8, &Call, &Numbers, &Result<Done, Refusal>, &Memories),
 ) -> Played {
     let mut played = Played { opened: None, report: Vec::new() };
     let mut place = 0;
@@ -50,12 +57,13 @@ pub fn play_seen(
                 break;
             }
         };
+        let kind = file[place];
         place = next;
         let result = played.take(most, &call, memories);
         if let Err(refusal) = result {
             played.refused(number, refusal);
         }
-        seen(&call, &played.opened.unwrap_or_default(), &result, memories);
+        seen(kind, &call, &played.opened.unwrap_or_default(), &result, memories);
     }
     played.benches(memories);
     played
@@ -119,48 +127,76 @@ fn is_larger(numbers: &Numbers, most: &Numbers) -> bool {
 /// "then a body whose length the kind fixes".
 pub fn body_length(kind: u8) -> Option<usize> {
     match kind {
-        0 => Some(8),
+        0 | 8 => Some(7 + slot_bytes(kind)),
         1 | 2 => Some(9),
         3 | 5 | 6 | 7 => Some(1),
-        4 => Some(5),
+        4 | 9 => Some(4 + slot_bytes(kind)),
         _ => None,
     }
 }
 
+/// "A new opening, kind 8, and a new hear, kind 9, carry the slot count or slot in two bytes; kinds 0 and 4 are still read as
+/// before."
+fn slot_bytes(kind: u8) -> usize {
+    if matches!(kind, 8 | 9) {
+        2
+    } else {
+        1
+    }
+}
+
 /// The record at a place before the end of the file, and the place after it.
-fn read_record(file: &[u8], place: usize) -> Result<(Call, usize), Refusal> {
+pub(crate) fn read_record(file: &[u8], place: usize) -> Result<(Call, usize), Refusal> {
     let kind = file[place];
     let length = body_length(kind).ok_or(Refusal::UnknownKind)?;
     let body = file[place + 1..].get(..length).ok_or(Refusal::CutRecord)?;
     Ok((decode(kind, body), place + 1 + length))
 }
 
-/// The call of a whole record of a known kind.
+/// The call of a whole record of a known kind: its numbers stand one behind the other.
 fn decode(kind: u8, body: &[u8]) -> Call {
-    let byte = |place: usize| usize::from(body[place]);
-    let pair = |place: usize| byte(place) + 256 * byte(place + 1);
-    let tag = || body[1..9].iter().rev().fold(0, |tag, &byte| tag << 8 | u64::from(byte));
-    let who = byte(0);
+    let mut rest = body;
+    let mut next = |bytes: usize| {
+        let (number, behind) = rest.split_at(bytes);
+        rest = behind;
+        lowest_first(number)
+    };
+    let who = next(1) as usize;
     match kind {
-        0 => {
-            let plan = Numbers { n: who, f: byte(1), slots: byte(2), phases: byte(3), room: pair(4) };
-            Call::Open { plan, start: pair(6) }
+        0 | 8 => {
+            let [f, slots, phases, room, start] =
+                [1, slot_bytes(kind), 1, 2, 2].map(|bytes| next(bytes) as usize);
+            Call::Open { plan: Numbers { n: who, f, slots, phases, room }, start }
         }
-        1 => Call::Submit { who, tag: tag() },
-        2 => Call::Relay { who, tag: tag() },
+        1 => Call::Submit { who, tag: next(8) },
+        2 => Call::Relay { who, tag: next(8) },
         3 => Call::Begin { who },
-        4 => Call::Hear { receiver: who, sender: byte(1), sort: byte(2), slot: byte(3), phase: byte(4) },
+        4 | 9 => {
+            let [sender, sort, slot, phase] = [1, 1, slot_bytes(kind), 1].map(|bytes| next(bytes) as usize);
+            Call::Hear { receiver: who, sender, sort, slot, phase }
+        }
         5 => Call::Advance { who },
         6 => Call::Crash { who },
         _ => Call::RunOn { who },
     }
 }
 
-/// Writes a call as a record. Numbers that do not fit their bytes lose their high part.
-pub fn write_record(file: &mut Vec<u8>, call: &Call) {
+/// "longer numbers have the lowest byte first."
+fn lowest_first(bytes: &[u8]) -> u64 {
+    bytes.iter().rev().fold(0, |number, &byte| number << 8 | u64::from(byte))
+}
+
+/// Writes a call as a record, in the new form also where a slot does not fit the old one. Other numbers that do not fit their
+/// bytes lose their high part.
+pub fn write_record(file: &mut Vec<u8>, call: &Call, form: Form) {
+    let kind = |old, new, slot: usize| if form == Form::Old && slot < 256 { old } else { new };
+    let slot_field = |kind, slot: usize| (slot as u16).to_le_bytes().into_iter().take(slot_bytes(kind));
     match *call {
         Call::Open { plan, start } => {
-            file.extend([0, plan.n as u8, plan.f as u8, plan.slots as u8, plan.phases as u8]);
+            let kind = kind(0, 8, plan.slots);
+            file.extend([kind, plan.n as u8, plan.f as u8]);
+            file.extend(slot_field(kind, plan.slots));
+            file.push(plan.phases as u8);
             file.extend((plan.room as u16).to_le_bytes());
             file.extend((start as u16).to_le_bytes());
         }
@@ -174,7 +210,10 @@ pub fn write_record(file: &mut Vec<u8>, call: &Call) {
         }
         Call::Begin { who } => file.extend([3, who as u8]),
         Call::Hear { receiver, sender, sort, slot, phase } => {
-            file.extend([4, receiver as u8, sender as u8, sort as u8, slot as u8, phase as u8]);
+            let kind = kind(4, 9, slot);
+            file.extend([kind, receiver as u8, sender as u8, sort as u8]);
+            file.extend(slot_field(kind, slot));
+            file.push(phase as u8);
         }
         Call::Advance { who } => file.extend([5, who as u8]),
         Call::Crash { who } => file.extend([6, who as u8]),

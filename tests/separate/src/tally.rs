@@ -1,5 +1,6 @@
 //! Counts what the generated inputs met, so that a comparison which never met something says so.
 
+use crate::bands;
 use crate::call::{Call, Done};
 use crate::memories::{Memories, ONE, UNDECIDED, ZERO};
 use crate::notices;
@@ -11,7 +12,7 @@ use crate::urgent;
 use std::collections::BTreeMap;
 use std::process::ExitCode;
 
-/// What a run can meet beside refusals, notices, long slots and urgent tags.
+/// What a run can meet beside refusals, notices, long slots, urgent tags and longer bands.
 pub const EVENTS: [&str; 33] = [
     "opened",
     "submitted new",
@@ -94,7 +95,7 @@ impl Tally {
         result: &Result<Done, Refusal>,
         memories: &Memories,
     ) {
-        for met in [notices::met, phases::met, urgent::met] {
+        for met in [notices::met, phases::met, urgent::met, bands::met] {
             met(call, numbers, result, memories).into_iter().for_each(|event| self.note(event));
         }
         if let Ok(done) = result {

@@ -1,10 +1,11 @@
 //! `bench [--quick]`: nanoseconds and steps per second of each call of the library beside the separate
-//! implementation, and how the library's grow, as two Markdown tables. `--quick` takes a tenth of the samples.
+//! implementation, how the library's grow, and those of the longest run, as three Markdown tables. `--quick` takes a tenth of
+//! the samples.
 //! `bench --callgrind CALL N`: the library's call many times in a rack of N replicas, to count instructions.
 
 use separate::batch::{clock, Batch, Side};
-use separate::cases::{Case, Kind, KINDS};
-use separate::numbers::{Numbers, USUAL_PHASES};
+use separate::cases::{Case, Kind, KINDS, LONG_KINDS};
+use separate::numbers::{Numbers, MOST_ROOM, MOST_SLOTS, USUAL_PHASES};
 use separate::script::Fill;
 use std::env;
 use std::process::ExitCode;
@@ -15,13 +16,23 @@ const HALF: Fill = Fill { known: 128, closed: 32 };
 const NEARLY_EMPTY: Fill = Fill { known: 1, closed: 0 };
 /// Of the step file that is played.
 const PLAYED: Fill = Fill { known: 16, closed: 8 };
+/// All but one of the slots of the longest run are closed, and all its tags known, or all but the one that is submitted.
+const FULL: Fill = Fill { known: 1024, closed: 1023 };
+const BUT_ONE: Fill = Fill { known: 1023, closed: 1023 };
+const PLAYED_LONG: Fill = Fill { known: 8, closed: 1024 };
+/// How a begin of the longest run grows, beside `FULL`.
+const GROWN: [Fill; 3] =
+    [Fill { known: 64, closed: 63 }, Fill { known: 256, closed: 255 }, Fill { known: 1024, closed: 0 }];
+/// Calls that take long by themselves.
+const SLOW: [&str; 6] =
+    ["play", "play-long", "begin-in-order", "begin-shuffled", "conduct-in-order", "conduct-shuffled"];
 /// The calls whose cost depends on the known tags and closed slots.
 const BY_FILL: [&str; 6] = ["submit-new", "submit-known", "relay", "begin", "conduct", "conduct-steps"];
 /// The rack in which known tags and slots grow.
 const GROWING: usize = 5;
 
-/// Replicas, slots and fill of one case.
-type Point = (usize, usize, Fill);
+/// The run and the fill of one case.
+type Point = (Numbers, Fill);
 
 /// A call's cost as one number grows.
 struct Series {
@@ -76,24 +87,24 @@ static SERIES: [Series; 31] = [
 ];
 
 fn rack(n: usize) -> Point {
-    (n, 64, HALF)
+    (numbers(n, 64), HALF)
 }
 
 /// A message of the last slot of a run.
 fn last_slot(slots: usize) -> Point {
-    (GROWING, slots, Fill { known: 64, closed: slots - 1 })
+    (numbers(GROWING, slots), Fill { known: 64, closed: slots - 1 })
 }
 
 fn known(known: usize) -> Point {
-    (GROWING, 64, Fill { known, closed: 0 })
+    (numbers(GROWING, 64), Fill { known, closed: 0 })
 }
 
 fn closed_of_64(closed: usize) -> Point {
-    (GROWING, 64, Fill { known: 64, closed })
+    (numbers(GROWING, 64), Fill { known: 64, closed })
 }
 
 fn closed_of_256(closed: usize) -> Point {
-    (GROWING, 64, Fill { known: 256, closed })
+    (numbers(GROWING, 64), Fill { known: 256, closed })
 }
 
 fn main() -> ExitCode {
@@ -118,35 +129,56 @@ fn numbers(n: usize, slots: usize) -> Numbers {
     Numbers { n, f: (n - 1) / 2, slots, phases: USUAL_PHASES, room: 256 }
 }
 
-fn case(kind: &Kind, (n, slots, fill): Point) -> Case {
-    kind.case(&numbers(n, slots), fill)
+fn longest(n: usize) -> Numbers {
+    Numbers { room: MOST_ROOM, ..numbers(n, MOST_SLOTS) }
+}
+
+/// Where a call is measured in a rack of n, if not said otherwise.
+fn usual_point(kind: &Kind, n: usize) -> Point {
+    match kind.name {
+        "play" => (numbers(n, 64), PLAYED),
+        "play-long" => (longest(n), PLAYED_LONG),
+        "submit-last" => (longest(n), BUT_ONE),
+        name if LONG_KINDS.iter().any(|long| long.name == name) => (longest(n), FULL),
+        _ => rack(n),
+    }
+}
+
+fn case(kind: &Kind, (numbers, fill): Point) -> Case {
+    kind.case(&numbers, fill)
 }
 
 fn named(name: &str) -> Result<&'static Kind, String> {
     Kind::named(name).ok_or_else(|| {
-        let names: Vec<&str> = KINDS.iter().map(|kind| kind.name).collect();
+        let names: Vec<&str> = KINDS.iter().chain(&LONG_KINDS).map(|kind| kind.name).collect();
         format!("{name} is none of {}", names.join(", "))
     })
 }
 
 /// All is checked before anything is measured or printed.
 fn print_tables(samples: usize) -> Result<(), String> {
-    let beside = cases_beside();
-    for &(kind, point) in beside.iter().chain(&cases_growing()?) {
+    let (beside, longest) = (cases_beside(), cases_longest());
+    for &(kind, point) in beside.iter().chain(&cases_growing()?).chain(&longest) {
         let case = case(kind, point);
         case.check().map_err(|difference| format!("{}: {difference}", case.name))?;
     }
-    let columns =
-        "library, ns | separate, ns | library, million/s | separate, million/s | ratio | 10 % to 90 %";
-    println!("| call | known tags, closed slots | n | {columns} |");
-    println!("|---|---:|---:|---:|---:|---:|---:|---:|---:|");
-    for (kind, point) in beside {
-        println!("{}", row_beside(kind, point, samples)?);
-    }
+    print_beside(beside, samples)?;
     println!("\n| call | n | growing | values | library, ns | last / first |");
     println!("|---|---:|---|---|---|---:|");
     for series in &SERIES {
         println!("{}", row_growing(series, samples)?);
+    }
+    println!("\nThe longest run:\n");
+    print_beside(longest, samples)
+}
+
+fn print_beside(cases: Vec<(&Kind, Point)>, samples: usize) -> Result<(), String> {
+    let columns =
+        "library, ns | separate, ns | library, million/s | separate, million/s | ratio | 10 % to 90 %";
+    println!("| call | known tags, closed slots | n | {columns} |");
+    println!("|---|---:|---:|---:|---:|---:|---:|---:|---:|");
+    for (kind, point) in cases {
+        println!("{}", row_beside(kind, point, samples)?);
     }
     Ok(())
 }
@@ -154,11 +186,23 @@ fn print_tables(samples: usize) -> Result<(), String> {
 fn cases_beside() -> Vec<(&'static Kind, Point)> {
     let mut cases = Vec::new();
     for kind in &KINDS {
-        let fill = if kind.name == "play" { PLAYED } else { HALF };
-        let fills = if BY_FILL.contains(&kind.name) { vec![NEARLY_EMPTY, fill] } else { vec![fill] };
-        for fill in fills {
-            cases.extend(RACKS.map(|n| (kind, (n, 64, fill))));
+        if BY_FILL.contains(&kind.name) {
+            cases.extend(RACKS.map(|n| (kind, (numbers(n, 64), NEARLY_EMPTY))));
         }
+        cases.extend(RACKS.map(|n| (kind, usual_point(kind, n))));
+    }
+    cases
+}
+
+/// A play's file is of three replicas, whatever the rack.
+fn cases_longest() -> Vec<(&'static Kind, Point)> {
+    let mut cases = Vec::new();
+    for kind in &LONG_KINDS {
+        if kind.name.starts_with("begin") {
+            cases.extend(GROWN.map(|fill| (kind, (longest(GROWING), fill))));
+        }
+        let racks = if kind.name == "play-long" { &RACKS[..1] } else { &RACKS[..] };
+        cases.extend(racks.iter().map(|&n| (kind, usual_point(kind, n))));
     }
     cases
 }
@@ -173,7 +217,7 @@ fn cases_growing() -> Result<Vec<(&'static Kind, Point)>, String> {
 }
 
 fn row_beside(kind: &Kind, point: Point, samples: usize) -> Result<String, String> {
-    let (n, _, fill) = point;
+    let (Numbers { n, .. }, fill) = point;
     let mut batches = [Batch::of(case(kind, point))];
     let measured = interleave(&mut batches, &[Side::Library, Side::Separate], samples_of(kind, samples))?;
     let [library, separate] = [&measured[0], &measured[1]];
@@ -212,9 +256,8 @@ fn row_growing(series: &Series, samples: usize) -> Result<String, String> {
     ))
 }
 
-/// A step file is thousands of calls.
 fn samples_of(kind: &Kind, samples: usize) -> usize {
-    if kind.name == "play" {
+    if SLOW.contains(&kind.name) {
         samples / 20
     } else {
         samples
@@ -258,10 +301,10 @@ fn rounded(nanoseconds: f64) -> String {
 /// Millions of calls in a second.
 fn millions(nanoseconds: f64) -> String {
     let millions = 1000.0 / nanoseconds;
-    if millions < 1.0 {
-        format!("{millions:.3}")
-    } else {
-        format!("{millions:.1}")
+    match millions {
+        ..0.001 => format!("{millions:.6}"),
+        ..1.0 => format!("{millions:.3}"),
+        _ => format!("{millions:.1}"),
     }
 }
 
@@ -276,9 +319,8 @@ fn repeat(name: &str, n: &str) -> Result<(), String> {
     if !(3..=15).contains(&n) {
         return Err("the scripts want 3 to 15 replicas".to_string());
     }
-    let fill = if kind.name == "play" { PLAYED } else { HALF };
-    let mut batch = Batch::of(case(kind, (n, 64, fill)));
-    let rounds = if kind.name == "play" { 10 } else { 100 };
+    let mut batch = Batch::of(case(kind, usual_point(kind, n)));
+    let rounds = if SLOW.contains(&kind.name) { 10 } else { 100 };
     let calls: usize = (0..rounds).map(|_| batch.repeat(Side::Library)).sum();
     println!("{calls} calls");
     Ok(())

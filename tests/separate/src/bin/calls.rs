@@ -2,31 +2,29 @@
 //! ordinary and damaged memories. Answers, values and every cell of every memory must be equal after each, and each
 //! refusal of each call, each event and each kind of damage must have occurred.
 
-use separate::busy::{busy_script, settle};
-use separate::call::{Answer, Call, Done};
-use separate::coin::{pattern, PATTERN};
+use separate::bands;
+use separate::call::{Call, Done};
+use separate::coin::PATTERN;
 use separate::compare::{compare_play, compare_strip, Difference, Pair};
 use separate::conducted;
-use separate::conductor::Conducted;
 use separate::damage::{any_record, lent, Damage, DAMAGES, LEVEL_DAMAGES};
+use separate::fixed::compare_fixed;
 use separate::generate::{
     broken_session, left_behind_session, likely_call, limit_plan, session, small_plan, start, strange_call,
     strange_numbers, strip_numbers, wild_session, Habits,
 };
 use separate::library;
+use separate::long_runs::{self, bring_forward, is_long, LARGE};
 use separate::memories::Memories;
 use separate::notices;
-use separate::numbers::{
-    Message, Numbers, Sort, LARGEST, MOST_PHASES, MOST_REPLICAS, MOST_SLOTS, USUAL_PHASES,
-};
+use separate::numbers::{Message, Numbers, Sort, LARGEST, MOST_REPLICAS, MOST_SLOTS, USUAL_PHASES};
 use separate::options::number;
 use separate::phases;
-use separate::racks::{drawn_rack, LEADS};
+use separate::racks::{lead_on, LEADS};
 use separate::random::Random;
-use separate::rank::{RANKED, URGENT};
 use separate::refusal::Refusal;
 use separate::rules::{self, Advanced};
-use separate::script::{order, Script};
+use separate::script::Script;
 use separate::strips;
 use separate::tally::{Tally, EVENTS};
 use separate::urgent;
@@ -52,7 +50,7 @@ const UNMARKED: [&str; 2] = ["advanced without its own mark", "refused 18 withou
 /// Events of the conductor that a single call's memories do not tell.
 const CONDUCTED: [&str; 2] = ["conducted in a run, by 3L² + L steps", "conducted three slots in a row"];
 
-/// Most runs are small, so that they end; some have the usual phases or masks of 15 bits; a few are the largest.
+/// Most runs are small, so that they end; some have the usual phases or masks of 15 bits; a few are `LARGE`, or long.
 const SMALL: Numbers = Numbers { n: 5, f: 2, slots: 3, phases: 4, room: 6 };
 const USUAL: Numbers = Numbers { n: 4, f: 1, slots: 2, phases: USUAL_PHASES, room: 6 };
 const WIDE: Numbers = Numbers { n: MOST_REPLICAS, f: 7, slots: 2, phases: 3, room: 20 };
@@ -60,14 +58,7 @@ const WIDE: Numbers = Numbers { n: MOST_REPLICAS, f: 7, slots: 2, phases: 3, roo
 fn main() -> ExitCode {
     let (seed, runs) = (number("--seed", 1), number("--runs", 1_000_000));
     let mut tally = Tally::expecting(expected());
-    let first = compare_pattern()
-        .and_then(|()| compare_further())
-        .and_then(|()| compare_left_behind())
-        .and_then(|()| compare_phase_limits())
-        .and_then(|()| compare_busy_days(&mut tally))
-        .and_then(|()| compare_conductor())
-        .and_then(|()| compare_ranks());
-    if let Err(difference) = first {
+    if let Err(difference) = compare_fixed(&mut tally) {
         println!("difference: {difference}");
         return ExitCode::FAILURE;
     }
@@ -97,7 +88,8 @@ fn expected() -> impl Iterator<Item = String> {
     let conducted = conducted::EVENTS.into_iter().chain(conducted::EVENTS_OF_DAMAGE).chain(CONDUCTED);
     let events =
         EVENTS.into_iter().chain(noticed).chain(phases::EVENTS).chain(strips::EVENTS).chain(conducted);
-    let events = events.chain(urgent::EVENTS).chain(others).chain(UNMARKED).map(str::to_string);
+    let bands = bands::EVENTS.into_iter().chain(bands::EVENTS_OF_CALLS);
+    let events = events.chain(urgent::EVENTS).chain(bands).chain(others).chain(UNMARKED).map(str::to_string);
     refusals.chain(events).chain(damages).chain(racks)
 }
 
@@ -106,156 +98,6 @@ fn answer_name(call: &str, refusal: usize) -> String {
         0 => format!("{call}, accepted"),
         refusal => format!("{call}, refused {refusal}"),
     }
-}
-
-/// The O.150 pattern: every start, with the largest strip and smaller ones. Both must give its entries as the recurrence
-/// does, which no packed table has gone through.
-fn compare_pattern() -> Result<(), Difference> {
-    let entries = pattern();
-    for (slots, phases) in [(MOST_SLOTS, MOST_PHASES), (1, 1), (1, 32), (64, 1), (3, 5), (16, 8)] {
-        for start in 0..PATTERN {
-            let mut strip = vec![7; slots * phases + 3];
-            let result = compare_strip(slots, phases, start, &mut strip)?;
-            let entry = |cell: usize| entries[(start + 32 * (cell / phases) + cell % phases) % PATTERN];
-            let coins: Vec<u8> = (0..slots * phases).map(entry).chain([7; 3]).collect();
-            if result.is_err() || strip != coins {
-                return Err(format!("strip of {slots} slots, {phases} phases from {start}: not the pattern"));
-            }
-        }
-    }
-    Ok(())
-}
-
-/// Document 01's "Further" check points, asked of the library.
-fn compare_further() -> Result<(), Difference> {
-    let mut memories = Memories::of_run(&LARGEST);
-    let mut ask = |n, f, slots, start, answer| {
-        let plan = Numbers { n, f, slots, phases: 4, room: 4 };
-        let refusal = library::make(&Call::Open { plan, start }, &plan, &mut memories).refusal;
-        let right = refusal == answer;
-        right.then_some(plan).ok_or(format!("opening of {plan:?} from {start}: answer {refusal}"))
-    };
-    ask(4, 2, 1, 0, Refusal::BadPlan.number())?;
-    ask(1, 0, 65, 0, Refusal::BadPlan.number())?;
-    ask(1, 0, 64, 511, Refusal::BadPlan.number())?;
-    ask(1, 0, 64, 510, 0)?;
-    let run = ask(5, 2, 1, 0, 0)?;
-    let mut answer = |call: Call| library::make(&call, &run, &mut memories).refusal;
-    let hear = |phase, sort| Call::Hear { receiver: 0, sender: 0, sort, slot: 0, phase };
-    let answers = [
-        answer(hear(0, 1)),
-        answer(Call::Submit { who: 0, tag: 7 }),
-        answer(Call::Begin { who: 0 }),
-        answer(hear(0, 1)),
-        answer(hear(1, 2)),
-    ];
-    let right = answers == [17, 0, 0, 18, 17];
-    right.then_some(()).ok_or(format!("a replica that hears itself: answers {answers:?}"))
-}
-
-/// Request 1's rack of three, asked of the library: two close slot 0 in phase 1, and the third waits in phase 2 until it
-/// hears a notice.
-fn compare_left_behind() -> Result<(), Difference> {
-    let run = Numbers { n: 3, f: 1, slots: 2, phases: 4, room: 4 };
-    let mut memories = Memories::of_run(&run);
-    let mut answer = |call: Call| library::make(&call, &run, &mut memories).refusal;
-    let hear = |receiver, sender, sort, phase| Call::Hear { receiver, sender, sort, slot: 0, phase };
-    let mut accepted = vec![Call::Open { plan: run, start: 0 }, Call::Submit { who: 0, tag: 5 }];
-    accepted.extend([Call::Relay { who: 1, tag: 5 }, Call::Submit { who: 2, tag: 9 }]);
-    accepted.extend([0, 1, 2].map(|who| Call::Begin { who }));
-    for (sort, phase) in [(1, 0), (2, 1), (3, 1)] {
-        accepted.extend([hear(0, 1, sort, phase), hear(1, 0, sort, phase), hear(2, 0, sort, phase)]);
-        accepted.extend([0, 1, 2].map(|who| Call::Advance { who }));
-    }
-    if let Some(call) = accepted.into_iter().find(|&call| answer(call) != 0) {
-        return Err(format!("left behind: {call:?} is refused"));
-    }
-    let (advance, notice) = (Call::Advance { who: 2 }, hear(2, 1, 4, 0));
-    let calls =
-        [advance, hear(2, 1, 4, 1), hear(2, 1, 5, 0), hear(1, 2, 4, 0), notice, notice, advance, advance];
-    let answers = calls.map(answer);
-    let right = answers == [14, 16, 16, 17, 0, 18, 0, 13] && memories.log(&run, 2, 1) == [5];
-    right.then_some(()).ok_or(format!("left behind: answers {answers:?}"))
-}
-
-/// Request 2, asked of the library: what a phase limit stands for in an opening, and that 0 is none elsewhere.
-fn compare_phase_limits() -> Result<(), Difference> {
-    let mut memories = Memories::of_run(&LARGEST);
-    let plan = |phases| Numbers { n: 3, f: 1, slots: 2, phases, room: 4 };
-    for (asked, opened) in [(0, 16), (1, 1), (8, 8), (16, 16), (17, 17), (32, 32)] {
-        let answer = library::make(&Call::Open { plan: plan(asked), start: 0 }, &plan(asked), &mut memories);
-        if answer != (Answer { numbers: plan(opened), ..Answer::default() }) {
-            return Err(format!("opening with a phase limit of {asked}: {answer:?}"));
-        }
-    }
-    let mut refusal = |call: Call, numbers| library::make(&call, &numbers, &mut memories).refusal;
-    let beyond = refusal(Call::Open { plan: plan(33), start: 0 }, plan(33));
-    let step = refusal(Call::Submit { who: 0, tag: 5 }, plan(0));
-    let strip = library::fill_strip(2, 0, 0, &mut [7; 64]);
-    let right = [beyond, step, strip] == [1, 3, 1];
-    right.then_some(()).ok_or(format!("33 phases, a step and a strip of none: {beyond}, {step}, {strip}"))
-}
-
-/// Request 2's busy days, from every start of the coin and with a phase limit of 0: one on which nothing is decided until the
-/// advances of phase 16 are refused, and one that ends in phase 10 to 16.
-fn compare_busy_days(tally: &mut Tally) -> Result<(), Difference> {
-    let plan = Numbers { n: 3, f: 1, slots: 2, phases: 0, room: 4 };
-    for start in 0..PATTERN {
-        let undecided = 9 + start % 7;
-        let mut ending = busy_script(&plan, start, undecided);
-        settle(&mut ending, undecided + 1);
-        for script in [ending, busy_script(&plan, start, 16)] {
-            let mut pair = Pair::of(Memories::of_run(&script.numbers));
-            for call in &script.calls {
-                let result = pair.call(call, &script.numbers)?;
-                tally.note_events(call, &script.numbers, &result, &pair.ours);
-            }
-        }
-    }
-    Ok(())
-}
-
-/// Request 3's counts, asked of the library: three slots with orders that the highest lit replica alone holds, of
-/// which the first-ranked is to come first. All n are lit, a quorum of them, or some number between.
-fn compare_conductor() -> Result<(), Difference> {
-    let racks = [(1, 0, 1, 4), (3, 1, 3, 30), (3, 1, 2, 14), (5, 2, 5, 80), (5, 2, 4, 52), (15, 7, 15, 690)];
-    for (n, f, lit, steps) in racks {
-        let mut script = Script::open(&Numbers { n, f, slots: 3, phases: 1, room: 3 });
-        script.crash(lit..n);
-        for tag in [order(3), order(1), URGENT + order(2)] {
-            script.share(tag, [lit - 1]);
-        }
-        let numbers = script.numbers;
-        let answers = [(); 4].map(|()| library::make(&Call::Conduct, &numbers, &mut script.memories));
-        let conducted = Answer { conducted: Conducted { steps, relays: lit - 1 }, ..Answer::default() };
-        let full = Answer { refusal: Refusal::LogFull.number(), ..Answer::default() };
-        let log = script.memories.log(&numbers, 0, 3);
-        if answers != [conducted, conducted, conducted, full]
-            || log != [URGENT + order(2), order(1), order(3)]
-        {
-            return Err(format!("conductor, {lit} of {n} lit: {answers:?}, {log:?}"));
-        }
-    }
-    Ok(())
-}
-
-/// C10 and request 5's ranks, asked of the library: which of two tags is proposed, whichever was submitted first, and that
-/// the other follows in the next slot.
-fn compare_ranks() -> Result<(), Difference> {
-    let steps = [Call::Begin { who: 0 }, Call::RunOn { who: 0 }, Call::Begin { who: 0 }];
-    for (first, other) in RANKED {
-        for tags in [[first, other], [other, first]] {
-            let mut script = Script::open(&Numbers { n: 1, f: 0, slots: 2, phases: 1, room: 2 });
-            tags.into_iter().for_each(|tag| script.share(tag, [0]));
-            let Script { numbers, mut memories, .. } = script;
-            let answers = steps.map(|step| library::make(&step, &numbers, &mut memories).refusal);
-            let proposed = [0, 1].map(|slot| memories.orders[numbers.proposal_cell(slot, 0)]);
-            if (answers, proposed) != ([0; 3], [first, other]) {
-                return Err(format!("pending {tags:?}: answers {answers:?}, {proposed:?} are proposed"));
-            }
-        }
-    }
-    Ok(())
 }
 
 /// The message of the caller's own that a call rests on: the one that it would hear, or one that its advance counts.
@@ -291,17 +133,21 @@ struct Trial<'a> {
 impl Trial<'_> {
     fn new(seed: u64, tally: &mut Tally) -> Trial<'_> {
         let mut random = Random::new(seed);
-        let most = match random.below(128) {
-            0 => LARGEST,
-            1..12 => WIDE,
-            12..24 => USUAL,
-            _ => SMALL,
+        let plan = match random.below(128) {
+            0 => small_plan(&mut random, &LARGE),
+            1..12 => small_plan(&mut random, &WIDE),
+            12..24 => small_plan(&mut random, &USUAL),
+            24..29 => long_runs::plan(&mut random),
+            _ => small_plan(&mut random, &SMALL),
         };
-        let plan = small_plan(&mut random, &most);
         let numbers = rules::planned(&plan, 0).unwrap_or(plan);
         let pair = Pair::of(lent(&mut random, &numbers));
         let habits = Habits::draw(&mut random, plan.n);
-        let rack_odds = if random.one_in(6) { 2 } else { usize::MAX };
+        let rack_odds = match random.below(6) {
+            _ if is_long(&plan) => 40,
+            0 => 2,
+            _ => usize::MAX,
+        };
         Trial {
             random,
             tally,
@@ -319,10 +165,8 @@ impl Trial<'_> {
 
     /// Answers how many calls were made.
     fn carry_out(&mut self) -> Result<u64, Difference> {
-        let opening = Call::Open { plan: self.plan, start: self.random.below(PATTERN) };
-        let numbers = self.numbers;
-        self.call(&opening, &numbers)?;
-        let steps = self.random.pick(&[20, 200, 500]);
+        self.open()?;
+        let steps = if self.plan == LARGEST { 20 } else { self.random.pick(&[20, 200, 500]) };
         for _ in 0..steps {
             self.mend();
             if self.whole.is_none() && self.random.one_in(self.rack_odds) {
@@ -334,6 +178,12 @@ impl Trial<'_> {
             self.step()?;
         }
         Ok(steps + 1)
+    }
+
+    fn open(&mut self) -> Result<(), Difference> {
+        let opening = Call::Open { plan: self.plan, start: self.random.below(PATTERN) };
+        let numbers = self.numbers;
+        self.call(&opening, &numbers)
     }
 
     fn step(&mut self) -> Result<(), Difference> {
@@ -367,9 +217,12 @@ impl Trial<'_> {
 
     /// A new run that is made for the conductor, damaged half the time, and conducted.
     fn conduct_rack(&mut self) -> Result<(), Difference> {
-        let (leads, script) = drawn_rack(&mut self.random, &self.plan);
+        self.numbers = rules::planned(&self.plan, 0).unwrap_or(self.plan);
+        self.pair = Pair::of(lent(&mut self.random, &self.numbers));
+        self.open()?;
+        let opened = Script::going_on(&self.numbers, self.pair.ours.clone());
+        let (leads, script) = lead_on(&mut self.random, opened);
         leads.iter().for_each(|name| self.tally.note(&format!("rack: {name}")));
-        self.pair = Pair::of(lent(&mut self.random, &script.numbers));
         script.calls.iter().try_for_each(|call| self.call(call, &script.numbers))?;
         match self.random.below(8) {
             0 => self.damage(&DAMAGES),
@@ -399,6 +252,11 @@ impl Trial<'_> {
                 self.numbers = numbers;
                 self.whole = None;
                 self.is_run = true;
+                // the first slots are like those of a small run
+                if is_long(&numbers) {
+                    bring_forward(&mut self.random, &numbers, &mut self.pair.ours);
+                    self.pair.theirs.clone_from(&self.pair.ours);
+                }
             }
         }
         Ok(())
@@ -492,7 +350,7 @@ impl Trial<'_> {
     fn compare_strip(&mut self) -> Result<(), Difference> {
         let random = &mut self.random;
         let (slots, phases, start) = strip_numbers(random);
-        let needed = slots.min(70) * phases.min(40);
+        let needed = slots.min(MOST_SLOTS + 6) * phases.min(40);
         let mut strip = vec![random.word() as u8; (needed + 2).saturating_sub(random.below(4))];
         let result = compare_strip(slots, phases, start, &mut strip)?;
         self.note_answer("strip", result);

@@ -6,7 +6,7 @@ use crate::memories::{bit, Memories, Record, EXCHANGE, FIND, IDLE, ONE, STATE, U
 use crate::numbers::{Message, Numbers, Sort};
 use crate::refusal::Refusal;
 use crate::rules::{self, Advanced, Ran, Stop};
-use crate::step_file::{report, write_record};
+use crate::step_file::{report, write_record, Form};
 
 const NOTICE: usize = 4;
 
@@ -254,7 +254,7 @@ fn a_notice_in_a_step_file() {
     let mut file = Vec::new();
     let more = [hear(2, 0, NOTICE), advance(2), hear(2, 0, NOTICE), hear(2, 1, NOTICE)];
     for call in worked_session().iter().chain(&more) {
-        write_record(&mut file, call);
+        write_record(&mut file, call, Form::Old);
     }
     let output = WORKED_OUTPUT
         .replace("bench 0", "refused 25 18\nrefused 26 17\nbench 0")
