@@ -118,7 +118,7 @@ pub static KINDS: [Kind; 24] = [
 ];
 
 /// Those of the longest run. "In order" are tags that were submitted in the order of their ranks, which is that of the logs.
-pub static LONG_KINDS: [Kind; 7] = [
+pub static LONG_KINDS: [Kind; 8] = [
     kind("begin-in-order", "begin, in order", begin_in_order, |did| matches!(did, Ok(Done::Begun(_)))),
     kind("begin-shuffled", "begin, shuffled", begin_shuffled, |did| matches!(did, Ok(Done::Begun(_)))),
     kind("submit-last", "submit, the last new tag", submit_last, |did| {
@@ -131,7 +131,8 @@ pub static LONG_KINDS: [Kind; 7] = [
     kind("conduct-shuffled", "conduct, a whole slot, shuffled", conduct_shuffled, |did| {
         matches!(did, Ok(Done::Conducted(Conducted { relays: 1.., .. })))
     }),
-    kind("play-long", "play, a step file of 1,024 slots", play_long, |_| true),
+    kind("play-full", "play, the step file of such a run", play_full, |_| true),
+    kind("play-long", "play, a step file of few tags", play_long, |_| true),
 ];
 
 /// From another start than the script's, so that cells change.
@@ -357,6 +358,13 @@ fn conduct_in_order(numbers: &Numbers, fill: Fill) -> (Script, Work) {
 
 fn conduct_shuffled(numbers: &Numbers, fill: Fill) -> (Script, Work) {
     (long(numbers, fill, Submits::Shuffled, bit(0)), Work::Call(Call::Conduct))
+}
+
+/// All the steps of a run of three, in records of the new kinds.
+fn play_full(numbers: &Numbers, fill: Fill) -> (Script, Work) {
+    let script = Script::filled(&Numbers { n: 3, f: 1, ..*numbers }, fill);
+    let file = script.file(|| Form::New);
+    (script, Work::Play { file })
 }
 
 /// Three replicas through so many slots, most of them empty; records of the new kinds.

@@ -24,8 +24,15 @@ const PLAYED_LONG: Fill = Fill { known: 8, closed: 1024 };
 const GROWN: [Fill; 3] =
     [Fill { known: 64, closed: 63 }, Fill { known: 256, closed: 255 }, Fill { known: 1024, closed: 0 }];
 /// Calls that take long by themselves.
-const SLOW: [&str; 6] =
-    ["play", "play-long", "begin-in-order", "begin-shuffled", "conduct-in-order", "conduct-shuffled"];
+const SLOW: [&str; 7] = [
+    "play",
+    "play-full",
+    "play-long",
+    "begin-in-order",
+    "begin-shuffled",
+    "conduct-in-order",
+    "conduct-shuffled",
+];
 /// The calls whose cost depends on the known tags and closed slots.
 const BY_FILL: [&str; 6] = ["submit-new", "submit-known", "relay", "begin", "conduct", "conduct-steps"];
 /// The rack in which known tags and slots grow.
@@ -201,7 +208,7 @@ fn cases_longest() -> Vec<(&'static Kind, Point)> {
         if kind.name.starts_with("begin") {
             cases.extend(GROWN.map(|fill| (kind, (longest(GROWING), fill))));
         }
-        let racks = if kind.name == "play-long" { &RACKS[..1] } else { &RACKS[..] };
+        let racks = if kind.name.starts_with("play") { &RACKS[..1] } else { &RACKS[..] };
         cases.extend(racks.iter().map(|&n| (kind, usual_point(kind, n))));
     }
     cases
@@ -257,10 +264,10 @@ fn row_growing(series: &Series, samples: usize) -> Result<String, String> {
 }
 
 fn samples_of(kind: &Kind, samples: usize) -> usize {
-    if SLOW.contains(&kind.name) {
-        samples / 20
-    } else {
-        samples
+    match kind.name {
+        "play-full" => samples / 100,
+        name if SLOW.contains(&name) => samples / 20,
+        _ => samples,
     }
 }
 
