@@ -13,7 +13,7 @@ use Rattle.model.proofs.Cases.{either}
 use Rattle.format.specs.declared.Read.{Read}
 use Rattle.format.specs.Format.{byte, last-kind, step-kind, is-wide, slot-bytes, body-length, act-at, step-at, file-record}
 use Rattle.format.proofs.NumberLaws.{one}
-use Rattle.format.proofs.BodyLaws.{step-few}
+use Rattle.format.specs.Forms.{step-few}
 use Rattle.format.specs.Numbered.{call-values, found-number, found-values, record-number, widths, numbers-at, record-values}
 
 module _ (file : List ℕ) where

@@ -1,17 +1,18 @@
 -- Document 02, Point 6: "Show that each old record and its new form give the same step." What a record is read as goes by its kind
 -- and by the bytes behind that alone. An opening of kind 0 and its form of kind 8, a hear of kind 4 and its form of kind 9 are read as
 -- the same call, for every body and wherever they stand; where the one is cut, the other is.
-use Prim.Native.Nat.{ℕ, zero, suc, _+_, _-_}
+use Prim.Native.Nat.{ℕ, zero, suc, _+_, _-_, _≤_, _<_}
 use native.Mathlib.Omega.{arith}
 use mathlib.Core.Bool.{Bool, false}
 use mathlib.Core.List.{List, [], _∷_, _++_}
 use mathlib.Core.Path.{_≡_, refl, sym, _∙_, ap}
-use lib.Dec.{leb, ltb, leb·suc-suc}
-use lib.ListN.{length, getD, length-append}
+use lib.Dec.{leb, ltb, eqb, leb·suc-suc}
+use lib.ListN.{length, getD, length-append, List·getD-append}
 use lib.Seq.{getD-append-seam, getD-append-add}
-use borrow.Author.Tests.{lt-leb}
+use borrow.Author.Tests.{lt-leb, le-ltb, ltb-false, eqb-false}
+use Rattle.model.specs.declared.Call.the-variants.{Open}
 use Rattle.model.specs.Tests.{if}
-use Rattle.model.proofs.Cases.{either}
+use Rattle.model.proofs.Cases.{either, if-ind}
 use Rattle.format.specs.declared.Found.{Found}
 use Rattle.format.specs.declared.Found.the-variants.{Unknown, Cut, Made}
 use Rattle.format.specs.Format.{number, byte, last-kind, step-kind, is-wide, slot-bytes, step-length, body-length, plan-at, message-at, act-at}
@@ -42,39 +43,59 @@ new-hear rest = 9 ∷ widened hear-front rest
 unfoldable pub found-in : ℕ → List ℕ → Found
 found-in kind rest = if (ltb last-kind kind) Unknown (if (ltb (length rest) (body-length kind)) Cut (Made (call-at kind rest 0)))
 
--- bytes of a file from a place on
-module _ (file rest : List ℕ) (i : ℕ) (there : (j : ℕ) → getD file (i + j) 0 ≡ getD rest j 0) where
-  number-there : (k j : ℕ) → number k file (i + j) ≡ number k rest j
+-- the call of a step goes by the bytes of its body: these stand in a file from a place on
+module _ (file body : List ℕ) (i m : ℕ) (there : (j : ℕ) → j < m → getD file (i + j) 0 ≡ getD body j 0) where
+  number-there : (k j : ℕ) → j + k ≤ m → number k file (i + j) ≡ number k body j
   unfolding number
-  number-there zero j = refl
-  number-there (suc k) j =
+  number-there zero j h = refl
+  number-there (suc k) j h =
       let on : number k file (i + j + 1) ≡ number k file (i + (j + 1)) = ap (number k file) (omega arith) in
-      rw (there j, on, number-there k (j + 1))
+      rw (there j (omega arith), on, number-there k (j + 1) (omega arith))
 
-  first-there : getD file i 0 ≡ getD rest 0 0
-  first-there = ap (λ (k : ℕ). getD file k 0) (let e : i ≡ i + 0 = omega arith in e) ∙ there 0
+  first-there : 1 ≤ m → getD file i 0 ≡ getD body 0 0
+  first-there h = ap (λ (k : ℕ). getD file k 0) (let e : i ≡ i + 0 = omega arith in e) ∙ there 0 h
 
-  plan-there : (wide : Bool) → plan-at wide file i ≡ plan-at wide rest 0
-  plan-there wide = let w = slot-bytes wide in
+  plan-there : (wide : Bool) → slot-bytes wide + 7 ≤ m → plan-at wide file i ≡ plan-at wide body 0
+  plan-there wide h = let w = slot-bytes wide in
       let a : i + 2 + w ≡ i + (2 + w) = omega arith in
       let b : i + 3 + w ≡ i + (3 + w) = omega arith in
       let c : i + 5 + w ≡ i + (5 + w) = omega arith in
-      rw (first-there, there 1, number-there w 2, a, there (2 + w), b, number-there 2 (3 + w), c, number-there 2 (5 + w))
+      rw (
+        first-there (omega arith),
+        there 1 (omega arith),
+        number-there w 2 (omega arith),
+        a,
+        there (2 + w) (omega arith),
+        b,
+        number-there 2 (3 + w) (omega arith),
+        c,
+        number-there 2 (5 + w) (omega arith),
+      )
 
-  message-there : (wide : Bool) → message-at wide file (i + 1) ≡ message-at wide rest 1
-  message-there wide = let w = slot-bytes wide in
+  message-there : (wide : Bool) → slot-bytes wide + 4 ≤ m → message-at wide file (i + 1) ≡ message-at wide body 1
+  message-there wide h = let w = slot-bytes wide in
       let a : i + 1 + 1 ≡ i + 2 = omega arith in
       let b : i + 1 + 2 ≡ i + 3 = omega arith in
       let c : i + 3 + w ≡ i + (3 + w) = omega arith in
-      rw (there 1, a, there 2, b, number-there w 3, c, there (3 + w))
+      rw (there 1 (omega arith), a, there 2 (omega arith), b, number-there w 3 (omega arith), c, there (3 + w) (omega arith))
 
-  act-there : (step : ℕ) (wide : Bool) → act-at step wide file i ≡ act-at step wide rest 0
-  unfolding act-at
-  act-there step wide = rw (number-there 8 1, message-there wide)
+  step-there : (step : ℕ) (wide : Bool) → step ≤ 7 → step-length step wide ≤ m → step-at step wide file i ≡ step-at step wide body 0
+  unfolding step-at act-at step-length if
+  step-there zero wide few h = ap Open (plan-there wide h)
+  step-there (suc zero) wide few h = rw (first-there (omega arith), number-there 8 1 (omega arith))
+  step-there (suc (suc zero)) wide few h = rw (first-there (omega arith), number-there 8 1 (omega arith))
+  step-there (suc (suc (suc zero))) wide few h = rw (first-there (omega arith))
+  step-there (suc (suc (suc (suc zero)))) wide few h = rw (first-there (omega arith), message-there wide h)
+  step-there (suc (suc (suc (suc (suc zero))))) wide few h = rw (first-there (omega arith))
+  step-there (suc (suc (suc (suc (suc (suc zero)))))) wide few h = rw (first-there (omega arith))
+  step-there (suc (suc (suc (suc (suc (suc (suc zero))))))) wide few h = rw (first-there (omega arith))
+  step-there (suc (suc (suc (suc (suc (suc (suc (suc step)))))))) wide few h = absurd (omega arith)
 
-  step-there : (step : ℕ) (wide : Bool) → step-at step wide file i ≡ step-at step wide rest 0
-  unfolding step-at
-  step-there step wide = rw (plan-there wide, first-there, act-there step wide)
+-- a known kind is a form of a step
+pub step-few : (kind : ℕ) → kind ≤ last-kind → step-kind kind ≤ 7
+unfolding step-kind
+step-few kind h = if-ind (λ (k : ℕ). k ≤ 7) (eqb kind 8) (λ _. omega arith)
+    (λ a. if-ind (λ (k : ℕ). k ≤ 7) (eqb kind 9) (λ _. omega arith) (λ b. omega (arith, eqb-false kind 8 a, eqb-false kind 9 b)))
 
 module _ (before : List ℕ) where
   pub read-there : (kind : ℕ) (rest : List ℕ) → file-record (before ++ (kind ∷ rest)) (length before) .found ≡ found-in kind rest
@@ -82,15 +103,35 @@ module _ (before : List ℕ) where
   read-there kind rest =
       let file = before ++ (kind ∷ rest) in
       let at = length before in
+      let m = body-length kind in
       let long : length file ≡ at + suc (length rest) = length-append before (kind ∷ rest) in
       let more : leb (length file) at ≡ false = lt-leb (length file) at (omega arith) in
       let left : length file - (at + 1) ≡ length rest = omega arith in
-      rw (more, left, getD-append-seam before kind rest 0, step-there file rest (at + 1) (λ j. behind j) (step-kind kind) (is-wide kind))
-      (either (ltb last-kind kind) (λ e. rw e) (λ e. rw e (either (ltb (length rest) (body-length kind)) (λ g. rw g) (λ g. rw g))))
+      rw (more, left, getD-append-seam before kind rest 0) (either (ltb last-kind kind) (λ e. rw e) (λ e. rw e (either (ltb (length rest) m) (λ g. rw g)
+      (λ g. rw (g, step-there file rest (at + 1) m behind (step-kind kind) (is-wide kind) (step-few kind (ltb-false last-kind kind e)) (omega arith))))))
     where
-      behind : (j : ℕ) → getD (before ++ (kind ∷ rest)) (length before + 1 + j) 0 ≡ getD rest j 0
-      behind j = ap (λ (k : ℕ). getD (before ++ (kind ∷ rest)) k 0) (let e : length before + 1 + j ≡ length before + suc j = omega arith in e)
+      behind : (j : ℕ) → j < body-length kind → getD (before ++ (kind ∷ rest)) (length before + 1 + j) 0 ≡ getD rest j 0
+      behind j _ = ap (λ (k : ℕ). getD (before ++ (kind ∷ rest)) k 0) (let e : length before + 1 + j ≡ length before + suc j = omega arith in e)
           ∙ getD-append-add before (kind ∷ rest) (suc j) 0
+
+-- what is behind a whole record does not matter
+pub by-body : (kind : ℕ) (body rest : List ℕ) → length body ≡ body-length kind → found-in kind (body ++ rest) ≡ found-in kind body
+unfolding found-in if
+by-body kind body rest h =
+    let m = body-length kind in
+    let more = length-append body rest in
+    let whole : ltb (length body) m ≡ false = le-ltb (length body) m (omega arith) in
+    let longer : ltb (length (body ++ rest)) m ≡ false = le-ltb (length (body ++ rest)) m (omega arith) in
+    either (ltb last-kind kind) (λ e. rw e) (λ e. rw (
+      e,
+      whole,
+      longer,
+      step-there (body ++ rest) body 0 m inside (step-kind kind) (is-wide kind)
+          (step-few kind (ltb-false last-kind kind e)) (omega arith),
+    ))
+  where
+    inside : (j : ℕ) → j < body-length kind → getD (body ++ rest) (0 + j) 0 ≡ getD body j 0
+    inside j l = ap (λ (k : ℕ). getD (body ++ rest) k 0) (let e : 0 + j ≡ j = omega arith in e) ∙ List·getD-append body rest 0 j (omega arith)
 
 -- ---- old and new form
 

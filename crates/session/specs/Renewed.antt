@@ -5,7 +5,7 @@ use native.Mathlib.Omega.{arith}
 use native.Mathlib.Decide.{ℕ-discrete}
 use mathlib.Core.Bool.{Bool, true, false}
 use mathlib.Core.List.{List, [], _∷_, _++_, append-assoc, append-nil}
-use mathlib.Core.Path.{_≡_, refl, sym, _∙_, ap, ap₂}
+use mathlib.Core.Path.{_≡_, refl, sym, _∙_, ap, ap₂, subst}
 use lib.Dec.{leb, ltb}
 use lib.ListN.{length, take, drop, length-append, take-append-drop}
 use lib.Seq.{getD-append-seam, length-take-le}
@@ -18,8 +18,7 @@ use Rattle.tables.specs.Layout.{Tables}
 use Rattle.format.specs.declared.Found.{Found}
 use Rattle.format.specs.declared.Found.the-variants.{End, Unknown, Cut, Made}
 use Rattle.format.specs.Format.{last-kind, step-kind, is-wide, step-length, body-length, file-record}
-use Rattle.format.specs.Forms.{widened, opening-front, hear-front, new-opening, new-hear, found-in, read-there, opening-forms, hear-forms}
-use Rattle.format.proofs.BodyLaws.{by-body}
+use Rattle.format.specs.Forms.{widened, opening-front, hear-front, new-opening, new-hear, found-in, read-there, by-body, opening-forms, hear-forms}
 use Rattle.player.specs.declared.Player.{Player}
 use Rattle.player.specs.Play.{Turn, called-in-place, turned, turn, goes-on, play, begun}
 use Rattle.player.specs.Forms.{SameTurn, same-turns}
@@ -112,74 +111,44 @@ record Behind (l l′ : List ℕ) : Type 0 where
   pub long′ : length front′ ≡ record-length l′
   pub more : Renewed rest rest′
 
+parted : (front front′ rest rest′ : List ℕ) → length front ≡ record-length (front ++ rest) → length front′ ≡ record-length (front′ ++ rest′)
+    → Renewed rest rest′ → Behind (front ++ rest) (front′ ++ rest′)
+parted front front′ rest rest′ long long′ more = record {
+  front = front;
+  front′ = front′;
+  rest = rest;
+  rest′ = rest′;
+  old = refl;
+  new = refl;
+  long = long;
+  long′ = long′;
+  more = more;
+}
+
 behind : {l l′ : List ℕ} → Renewed l l′ → is-made (found-at l) ≡ true → Behind l l′
 unfolding found-at record-length
 behind (as-it-is []) h = clash h
-behind (as-it-is (kind ∷ all)) h =
+behind (as-it-is (kind ∷ rest)) h =
     let m = body-length kind in
-    let whole = length-take-le m all (made-whole kind all h) in
-    let apart = ap (λ (l : List ℕ). kind ∷ l) (sym (take-append-drop m all)) in
-    record {
-      front = kind ∷ take m all;
-      front′ = kind ∷ take m all;
-      rest = drop m all;
-      rest′ = drop m all;
-      old = apart;
-      new = apart;
-      long = ap suc whole;
-      long′ = ap suc whole;
-      more = as-it-is (drop m all);
-    }
-behind (kept kind body rest rest′ long r) h = record {
-  front = kind ∷ body;
-  front′ = kind ∷ body;
-  rest = rest;
-  rest′ = rest′;
-  old = refl;
-  new = refl;
-  long = ap suc long;
-  long′ = ap suc long;
-  more = r;
-}
-behind (opening body rest rest′ long r) h = record {
-  front = 0 ∷ body;
-  front′ = new-opening body;
-  rest = rest;
-  rest′ = rest′;
-  old = refl;
-  new = refl;
-  long = ap suc long;
-  long′ = ap suc (new-opening-long body long);
-  more = r;
-}
-behind (hear body rest rest′ long r) h = record {
-  front = 4 ∷ body;
-  front′ = new-hear body;
-  rest = rest;
-  rest′ = rest′;
-  old = refl;
-  new = refl;
-  long = ap suc long;
-  long′ = ap suc (new-hear-long body long);
-  more = r;
-}
+    let long = ap suc (length-take-le m rest (made-whole kind rest h)) in
+    let all = ap (λ (l : List ℕ). kind ∷ l) (take-append-drop m rest) in
+    subst (λ (l : List ℕ). Behind l l) all (parted (kind ∷ take m rest) (kind ∷ take m rest) (drop m rest) (drop m rest) long long (as-it-is (drop m rest)))
+behind (kept kind body rest rest′ long r) h = parted (kind ∷ body) (kind ∷ body) rest rest′ (ap suc long) (ap suc long) r
+behind (opening body rest rest′ long r) h = parted (0 ∷ body) (new-opening body) rest rest′ (ap suc long) (ap suc (new-opening-long body long)) r
+behind (hear body rest rest′ long r) h = parted (4 ∷ body) (new-hear body) rest rest′ (ap suc long) (ap suc (new-hear-long body long)) r
 
 -- the new file is as long, or longer
+wider : (k : ℕ) (body rest rest′ : List ℕ) → k ≤ length body → length rest ≤ length rest′ → length (body ++ rest) ≤ length (widened k body ++ rest′)
+wider k body rest rest′ h l =
+    let a = length-append body rest in let b = length-append (widened k body) rest′ in let c = length-widened k body h in omega arith
+
 no-shorter : {l l′ : List ℕ} → Renewed l l′ → length l ≤ length l′
 unfolding step-kind is-wide step-length if
 no-shorter (as-it-is rest) = omega arith
 no-shorter (kept kind body rest rest′ h r) =
     let a = length-append body rest in let b = length-append body rest′ in let c = no-shorter r in omega arith
-no-shorter (opening body rest rest′ h r) =
-    let a = length-append body rest in
-    let b = length-append (widened opening-front body) rest′ in
-    let c = no-shorter r in
-    let d = length-widened opening-front body (omega arith) in omega arith
-no-shorter (hear body rest rest′ h r) =
-    let a = length-append body rest in
-    let b = length-append (widened hear-front body) rest′ in
-    let c = no-shorter r in
-    let d = length-widened hear-front body (omega arith) in omega arith
+no-shorter (opening body rest rest′ h r) = let l = wider opening-front body rest rest′ (omega arith) (no-shorter r) in omega arith
+no-shorter (hear body rest rest′ h r) = let l = wider hear-front body rest rest′ (omega arith) (no-shorter r) in omega arith
 
 nothing-added : {l l′ : List ℕ} → Renewed l l′ → length l ≡ 0 → l ≡ l′
 nothing-added (as-it-is rest) h = refl
