@@ -30,6 +30,8 @@ refusal-number-spec =
     (λ c. search needs)
     (λ c. search needs)
     (λ c. search needs)
+    (λ c. search needs)
+    (λ c. search number-told)
     (λ c. search number-told)
     (λ c. search number-told)
     (λ c. search number-told)
