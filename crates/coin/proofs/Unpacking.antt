@@ -7,7 +7,7 @@ use native.Mathlib.Omega.{arith}
 use lib.ListN.{length, getD, length-append, List·getD-append}
 use lib.Seq.{getD-append-add}
 use Rattle.model.specs.Coins.{entries, coin-entries, coin-entry}
-use Rattle.coin.specs.Grown.{Grows, length-grown, getD-grown}
+use Rattle.model.proofs.Grown.{Grows, length-grown, getD-grown}
 use Rattle.coin.specs.Law.{table-grows}
 use Rattle.coin.specs.Packed.{bits, unpacked, Packed}
 
