@@ -8,20 +8,20 @@ use mathlib.Core.List.{List, _++_}
 use mathlib.Core.Path.{_≡_, sym, subst}
 use lib.Dec.{ltb, eqb}
 use lib.ListN.{length, length-append}
-use borrow.Author.Tests.{ltb-true, ltb-false, not-false}
+use borrow.Author.Tests.{ltb-false, not-false}
 use Rattle.tables.specs.Types.{Numbers, Plan, Refusal, BadPlan, ShortTable, SpoiledRecord, NoSuchReplica, Crashed, BlankTag, AlreadyHeld}
 use Rattle.tables.specs.Types.{TagRoomFull, UnknownTag, Busy, LogFull, NothingPending, NotBegun, TooFewHeard, PhasesUsedUp, NoSuchMessage}
 use Rattle.tables.specs.Types.{NotSent, AlreadyHeard, UnknownKind, CutRecord, OutOfPlace, Call, Open, Single, RunOn, Answer}
-use Rattle.tables.specs.Types.{NotLevel, TooFewRunning, Conduct}
+use Rattle.tables.specs.Types.{NotLevel, TooFewRunning, OddLength, Conduct}
 use Rattle.model.specs.Answers.{refusal-number}
 use Rattle.model.specs.Limits.{most-slots, limited, planned, plan-limited}
-use Rattle.model.specs.Rack.{round-in, Replica}
+use Rattle.model.specs.Rack.{Replica}
 use Rattle.model.proofs.Branches.{if-true}
 use Rattle.model.proofs.Cases.{clash, if-ind, and-true, or-false, Unmet, unless-ind}
-use Rattle.tables.specs.Layout.{Tables, record-at}
-use Rattle.tables.specs.View.{only, view}
+use Rattle.tables.specs.Layout.{Tables}
+use Rattle.tables.specs.View.{view}
 use Rattle.tables.specs.Bounds.{Bounds, bounds}
-use Rattle.tables.specs.Sound.{Sound, stands, closed-few}
+use Rattle.tables.specs.Sound.{slots-few}
 use Rattle.tables.specs.Calls.{OpenOutcome, opening-refusals, open-rack, called}
 use Rattle.report.specs.Text.{text, decimal}
 use Rattle.report.specs.Lines.{opened-line, refused-line, entry-text, entries-text, light, bench-line, bench-lines}
@@ -61,6 +61,7 @@ refusal-few CutRecord = omega arith
 refusal-few OutOfPlace = omega arith
 refusal-few NotLevel = omega arith
 refusal-few TooFewRunning = omega arith
+refusal-few OddLength = omega arith
 
 opened-short : (N : Numbers) → Bounds N → length (opened-line N) ≤ 24
 opened-short N b =
@@ -161,13 +162,6 @@ benches-short at slots little few (suc c) h =
     let d = length-append (bench-lines c at) (bench-line c (r .crashed) (r .closed) (r .entry)) in
     let e : bench-most slots * suc c ≡ bench-most slots * c + bench-most slots = mul-suc (bench-most slots) c in omega arith
 
--- a replica whose record is not spoiled has closed no more slots than there are
-slots-few : (N : Numbers) (t : Tables) → Sound N t → (c : ℕ) → view N t .at c .closed ≤ N .slots
-unfolding only
-slots-few N t fine c = let k = record-at (t .words) c in
-    if-ind (λ (r : Replica). r .closed ≤ N .slots) (ltb c (N .n))
-    (λ h. closed-few N (k .slot) (k .phase) (round-in (k .round)) (stands N fine (ltb-true c (N .n) h))) (λ _. zero-le)
-
 -- ---- an opened run is no larger than the player's tables
 
 module _ (most : Numbers) where
@@ -224,7 +218,7 @@ module _ (most : Numbers) (file : List ℕ) (t : Tables) (strip : List ℕ) wher
       let fine = opened-sound most file t strip k e in
       let b = fine .within in
       let (fewer, shorter) = played-fits k e in
-      le-trans (benches-short (view N (x .tables) .at) (N .slots) (b .slots-few) (slots-few N (x .tables) fine) (N .n) (omega arith))
+      le-trans (benches-short (view N (x .tables) .at) (N .slots) (b .slots-few) (slots-few N fine) (N .n) (omega arith))
       (mul-le-mul (omega arith) fewer)) (λ _. zero-le)
 
   pub report-fits : length file < 100000 → length (report most file t strip) ≤ 24 * length file + bench-most (most .slots) * most .n

@@ -1,19 +1,19 @@
 -- What is known of a record that is not spoiled, and of memories where refusals 3 and 2 of a step are not met.
-use Prim.Native.Nat.{ℕ, _≤_, _<_}
+use Prim.Native.Nat.{ℕ, _≤_, _<_, zero-le}
 use native.Mathlib.Omega.{arith}
 use mathlib.Core.Bool.{Bool, true, false, not, _&&_, _||_}
 use mathlib.Core.List.{List}
 use mathlib.Core.Path.{_≡_, refl, sym, _∙_, ap, ap₂, subst}
 use lib.Dec.{leb, ltb}
 use lib.ListN.{length}
-use borrow.Author.Tests.{ltb-false, leb-false, le-leb, le-ltb, lt-ltb, not-false}
+use borrow.Author.Tests.{ltb-true, ltb-false, leb-false, le-leb, le-ltb, lt-ltb, not-false}
 use Rattle.tables.specs.Types.{Numbers, Round, Idle, Exchange, State, Vote, Find, States, Votes, Notices, Step, Record}
 use Rattle.model.specs.Tests.{if}
 use Rattle.model.specs.Limits.{limited}
 use Rattle.model.specs.Rack.{round-number, round-in, same-round, is-sent, Replica}
 use Rattle.model.specs.Rules.{is-crash, phase-in, seen, notice}
 use Rattle.model.proofs.Branches.{if-true}
-use Rattle.model.proofs.Cases.{clash, or-false, or-none, Unmet, round-back}
+use Rattle.model.proofs.Cases.{clash, or-false, or-none, if-ind, Unmet, round-back}
 use Rattle.model.proofs.Counting.{any-false}
 use Rattle.model.proofs.FirstSent.{first-found}
 use Rattle.tables.specs.Layout.{Tables, known-in, record-end, record-at}
@@ -127,6 +127,13 @@ module _ (N : Numbers) where
   pub own-view : (t : Tables) {c : ℕ} → c < n → view N t .at c ≡ replica-at N t c
   unfolding only
   own-view t {c} there = if-true _ _ (lt-ltb c n there)
+
+  -- no replica has closed more slots than there are
+  pub slots-few : {t : Tables} → Sound t → (c : ℕ) → view N t .at c .closed ≤ N .slots
+  unfolding only
+  slots-few {t} fine c = let k = record-at (t .words) c in
+      if-ind (λ (r : Replica). r .closed ≤ N .slots) (ltb c n)
+      (λ h. closed-few N (k .slot) (k .phase) (round-in (k .round)) (stands fine (ltb-true c n h))) (λ _. zero-le)
 
   -- the round that the view has it in, with its slot and phase
   module _ {t : Tables} (fine : Sound t) {c : ℕ} (there : c < n) where
