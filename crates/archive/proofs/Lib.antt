@@ -1,0 +1,4 @@
+pub mod FillLaws
+pub mod PlaneLaws
+pub mod EntryLaws
+pub mod CallLaws
