@@ -41,7 +41,8 @@ use Rattle.tables.specs.Sections.{SameRecords, SameHolders, SameHeard, SameTags
 use Rattle.promises.specs.Order.{turned-away, step-refusals, conductor-refusals}
 use Rattle.promises.specs.Refusals.{running-accepts}
 
--- ---- "A refusal returns its number and changes nothing at all." Of the strip call, the crate coin proves it.
+-- ---- "A refusal returns its number and changes nothing at all." Of the strip call and of the
+-- archive's, the crates coin and archive prove it.
 
 -- an answer that accepts is no refusal
 accepting : {A : Type 0} (good : Answer) → turned-away good ≡ none → (why : Refusal) → good ≡ Refused why → A

@@ -20,6 +20,7 @@ use Rattle.model.proofs.Branches.{if-true, if-false}
 use Rattle.model.specs.Conductor.{conduct-refusals}
 use Rattle.model.specs.Scripts.{advance}
 use Rattle.coin.specs.Strip.{strip-refusals}
+use Rattle.archive.specs.Calls.{planes-refusals, entries-refusals}
 use Rattle.tables.specs.Layout.{Tables}
 use Rattle.tables.specs.View.{view}
 use Rattle.tables.specs.Checks.{tables-refusals, record-refusals}
@@ -67,6 +68,11 @@ openings q t strip = refl
 
 pub strips : (slots phases start : ℕ) (strip : List ℕ) → order (strip-refusals slots phases start strip) ≡ 1 ∷ 2 ∷ []
 strips slots phases start strip = refl
+
+-- document 02: "1 above 1,024 entries or 8,192 stored bytes; then 24 "odd length" ..; then 2 if the output is short"
+pub archives : (entries stored output : List ℕ)
+    → (order (planes-refusals entries output) ≡ 1 ∷ 2 ∷ []) × (order (entries-refusals stored output) ≡ 1 ∷ 24 ∷ 2 ∷ [])
+archives entries stored output = (refl, refl)
 
 -- a crash of the one record that it is lent
 pub crashes : (N : Numbers) (c : ℕ) (k : Record) → order (crash-refusals N c k) ≡ 3 ∷ 4 ∷ 5 ∷ []

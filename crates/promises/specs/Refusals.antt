@@ -20,8 +20,10 @@ use Rattle.model.proofs.Sequences.{conducts-by, conducted-by}
 use Rattle.safety.specs.Comes.{ByRule, by-submit, by-relay, by-begin, by-hear, by-notice, by-exchange, by-state}
 use Rattle.safety.specs.Comes.{by-outcome-0, by-outcome-1, by-seek, by-next-phase, by-find, by-crash, past}
 use Rattle.coin.specs.Strip.{StripOutcome, strip-refusals, strip-filled}
+use Rattle.archive.specs.Planes.{planes, entries-of}
+use Rattle.archive.specs.Calls.{planes-refusals, entries-refusals, rearranged, to-planes, to-entries}
 use Rattle.tables.specs.Layout.{Tables, record-end, record-at}
-use Rattle.tables.specs.View.{only, view}
+use Rattle.tables.specs.View.{view}
 use Rattle.tables.specs.Calls.{CrashOutcome, crash-refusals, crashed, lent-refusals, judge, performed}
 use Rattle.tables.specs.Calls.{on-tables, stepped, ran-on, conducted, OpenOutcome, opening-refusals, open-rack, called}
 use Rattle.tables.specs.Crashes.{crash-in-place}
@@ -135,6 +137,17 @@ pub strip-answers : (slots phases start : ℕ) (strip : List ℕ)
 unfolding strip-filled
 strip-answers slots phases start strip =
     first-returned (λ (o : StripOutcome). turned-away (o .answer)) _ _ (λ why. refl) (strip-refusals slots phases start strip) (λ _. refl)
+
+-- the archive's two calls, each by its own refusals
+rearranged-answers : (gs : List Ground) (result output : List ℕ) → turned-away (rearranged gs result output .answer) ≡ first-met gs
+unfolding rearranged
+rearranged-answers gs result output = first-returned (λ (o : Played (List ℕ)). turned-away (o .answer)) _ _ (λ why. refl) gs (λ _. refl)
+
+pub planes-answers : (entries output : List ℕ) → turned-away (to-planes entries output .answer) ≡ first-met (planes-refusals entries output)
+planes-answers entries output = rearranged-answers (planes-refusals entries output) (planes entries) output
+
+pub entries-answers : (stored output : List ℕ) → turned-away (to-entries stored output .answer) ≡ first-met (entries-refusals stored output)
+entries-answers stored output = rearranged-answers (entries-refusals stored output) (entries-of stored) output
 
 -- any call
 pub call-answers : (N : Numbers) (a : Call) (t : Tables) (strip : List ℕ)
