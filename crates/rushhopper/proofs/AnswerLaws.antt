@@ -50,8 +50,8 @@ gathered _ a b c d e = λ i. record { n = a i; f = b i; slots = c i; phases = d 
 -- ---- calls
 
 module _ {a : Answer} {r : ℕ} (number : r ≡ answer-number a) where
-  pub numbered : {t : Tables} {o : Played Tables} → ended a t ≡ o → (r ≡ o .number) × (t ≡ o .state)
-  numbered e = (number ∙ ap (λ (o : Played Tables). o .number) e, ap (λ (o : Played Tables). o .state) e)
+  pub numbered : {S : Type 0} {t : S} {o : Played S} → ended a t ≡ o → (r ≡ o .number) × (t ≡ o .state)
+  numbered {S} e = (number ∙ ap (λ (o : Played S). o .number) e, ap (λ (o : Played S). o .state) e)
 
   pub counted : {k : ℕ} {t : Tables} {o : Played Tables} → k ≡ value 0 (answer-values a) → ended a t ≡ o
       → (r ≡ o .number) × (k ≡ value 0 (o .values)) × (t ≡ o .state)
