@@ -1,7 +1,8 @@
 /* Rushhopper, a proved order log: its calls for C and C++.
  *
  * The library keeps nothing. A run lives in three memories and a strip that the caller owns and lends to every call, each as
- * a pointer and a count of elements; no two may overlap, and none may be null. docs/TABLES.md has the layout of each.
+ * a pointer and a count of elements; no two may overlap, and none may be null. docs/TABLES.md has the layout of each. The two
+ * calls for the archive are lent entries and bytes by the same rules, and no run.
  *
  * A call answers 0 if it is accepted, else the number of the refusal (enum rushhopper_refusal), and a refused call leaves
  * everything lent as it was. Any number may be handed in: one that is out of range is refused.
@@ -11,10 +12,12 @@
  *     RUSHHOPPER_DEFINE_MEMORIES(rack, 3, 2, 4, 4);            // 3 replicas, 2 slots, 4 phases, room for 4 tags
  *     struct rushhopper_numbers plan = {3, 1, 2, 4, 4};        // n, f, slots, phases, room
  *     struct rushhopper_replica first = {0};
+ *     uint8_t stored[RUSHHOPPER_STORED_LENGTH(2)];
  *
  *     refusal = rushhopper_open_in(&rack, plan, 0);
  *     refusal = rushhopper_submit_in(&rack, first, 5);
  *     conducted = rushhopper_conduct_in(&rack);                // all replicas close slot 0 with 5
+ *     refusal = rushhopper_store_log_in(&rack, first, stored, sizeof stored);      // its log, for the archive
  *
  * Document 01 says "controller" for replica, "spare" for f, "quota" for quorum (n - f), "lit" for running, "dark" for
  * crashed. */
@@ -77,11 +80,11 @@ struct rushhopper_message {
 };
 
 /* The refusals of documents 01 and 02; their own word stands behind a name that differs. 13, 14 and 15 are given only where
- * the replica has heard no notice of its current slot. 19, 20 and 21 occur in step files only, 22 and 23 in none. */
+ * the replica has heard no notice of its current slot. 19, 20 and 21 occur in step files only, 22, 23 and 24 in none. */
 enum rushhopper_refusal {
     RUSHHOPPER_ACCEPTED = 0,
-    RUSHHOPPER_BAD_PLAN = 1,          /* opening or strip: a number beyond the limits */
-    RUSHHOPPER_SHORT_TABLE = 2,       /* a lent memory or strip shorter than the run needs */
+    RUSHHOPPER_BAD_PLAN = 1,          /* opening, strip or archive: a number beyond the limits */
+    RUSHHOPPER_SHORT_TABLE = 2,       /* a lent memory or strip shorter than the run needs; archive: a short output */
     RUSHHOPPER_SPOILED_RECORD = 3,    /* numbers beyond the limits, more known tags than room, or a record out of range */
     RUSHHOPPER_NO_SUCH_REPLICA = 4,   /* "no such bench": the acting replica or the sender is n or more */
     RUSHHOPPER_CRASHED = 5,           /* "dark": the acting replica has crashed */
@@ -102,7 +105,8 @@ enum rushhopper_refusal {
     RUSHHOPPER_CUT_RECORD = 20,       /* the file ends inside a record */
     RUSHHOPPER_OUT_OF_PLACE = 21,     /* a step before an accepted opening, or an opening after one */
     RUSHHOPPER_NOT_LEVEL = 22,        /* conduct: not all running ones idle at one slot, or a message of it was sent */
-    RUSHHOPPER_TOO_FEW_RUNNING = 23   /* "too few lit": conduct, fewer replicas running than the quorum */
+    RUSHHOPPER_TOO_FEW_RUNNING = 23,  /* "too few lit": conduct, fewer replicas running than the quorum */
+    RUSHHOPPER_ODD_LENGTH = 24        /* archive: stored bytes that are no multiple of 8 */
 };
 
 /* refusal 0: the numbers of the run that was opened (phases 0 became RUSHHOPPER_DEFAULT_PHASES); else all 0 */
@@ -174,6 +178,10 @@ static inline size_t rushhopper_report_length(size_t file_length, struct rushhop
 
     return RUSHHOPPER_REPORT_LENGTH(file_length, n, slots);
 }
+
+/* The archive takes up to so many entries at once, and no run has a longer log. It keeps 8 bytes of each. */
+#define RUSHHOPPER_MOST_ENTRIES 1024
+#define RUSHHOPPER_STORED_LENGTH(entries) (8 * (size_t)(entries))
 
 #define RUSHHOPPER_MEMORIES \
     uint16_t *words, size_t words_length, \
@@ -249,6 +257,18 @@ struct rushhopper_conducted rushhopper_conduct(struct rushhopper_numbers numbers
 struct rushhopper_played rushhopper_play(struct rushhopper_numbers most, const uint8_t *file, size_t file_length,
                                          uint8_t *report, size_t report_length,
                                          RUSHHOPPER_MEMORIES, uint8_t *strip, size_t strip_length);
+
+/* Logs laid out for the archive, and back. The archive keeps a log by byte plane: the highest byte of every entry first, then
+ * the next, to the eighth. Of k entries, byte p of entry i, with p 0 for the highest, is stored at p * k + i. Any numbers will
+ * do as entries, and any bytes as stored ones; each call undoes the other. Output past the result is not touched. */
+
+/* From entries to planes. Refusal 1 above RUSHHOPPER_MOST_ENTRIES, then 2 if stored_length is below
+ * RUSHHOPPER_STORED_LENGTH(entries_length). */
+size_t rushhopper_to_planes(const uint64_t *entries, size_t entries_length, uint8_t *stored, size_t stored_length);
+
+/* From planes to entries, an eighth as many. Refusal 1 above RUSHHOPPER_STORED_LENGTH(RUSHHOPPER_MOST_ENTRIES) bytes, then 24
+ * if they are no multiple of 8, then 2 if entries_length is below an eighth of stored_length. */
+size_t rushhopper_to_entries(const uint8_t *stored, size_t stored_length, uint64_t *entries, size_t entries_length);
 
 /* ---- Part 2: the same calls on memories kept in one struct ---- */
 
@@ -365,15 +385,57 @@ static inline struct rushhopper_record rushhopper_record_of(const struct rushhop
     return record;
 }
 
+/* Where a replica's entries start in the orders: behind the known tags, the proposals and the entries of those before it. */
+static inline size_t rushhopper_log_start(const struct rushhopper_memories *rack, struct rushhopper_replica who)
+{
+    return rack->numbers.room + rack->numbers.slots * (rack->numbers.n + who.number);
+}
+
 /* The entry of a replica's log, 0 for an empty slot. Counts for the closed slots, those below its record's slot; 0 where the
  * memory has no such entry. */
 static inline uint64_t rushhopper_entry_of(const struct rushhopper_memories *rack, struct rushhopper_replica who,
                                            struct rushhopper_slot slot)
 {
-    const size_t n = rack->numbers.n, slots = rack->numbers.slots;
-    const size_t cell = rack->numbers.room + slots * n + who.number * slots + slot.index;
+    const size_t cell = rushhopper_log_start(rack, who) + slot.index;
+    const int in_run = who.number < rack->numbers.n && slot.index < rack->numbers.slots;
 
-    return who.number < n && slot.index < slots && cell < rack->orders_length ? rack->orders[cell] : 0;
+    return in_run && cell < rack->orders_length ? rack->orders[cell] : 0;
+}
+
+/* A log where it stands in the memory. It stays so until the next opening; what is closed later stands behind it. */
+struct rushhopper_log { const uint64_t *entries; size_t length; };
+
+/* The log of a replica: the entries of the slots that it has closed, 0 for an empty one. Of length 0 where the memory does not
+ * have it. */
+static inline struct rushhopper_log rushhopper_log_of(const struct rushhopper_memories *rack, struct rushhopper_replica who)
+{
+    const size_t closed = rushhopper_record_of(rack, who).slot, start = rushhopper_log_start(rack, who);
+    struct rushhopper_log log = {rack->orders, 0};
+
+    if (closed <= rack->numbers.slots && start <= rack->orders_length && closed <= rack->orders_length - start) {
+        log.entries += start;
+        log.length = closed;
+    }
+    return log;
+}
+
+/* Stores the log of a replica, running or crashed, for the archive, in the first RUSHHOPPER_STORED_LENGTH(log.length) bytes.
+ * Refusal 4 for a replica that is not of the run, as from a step: it has no log, which is not an empty one. Then 3 if its
+ * record has more closed slots than the run has slots, 2 if record or log are not in the memory, and those of
+ * rushhopper_to_planes. */
+static inline size_t rushhopper_store_log_in(const struct rushhopper_memories *rack, struct rushhopper_replica who,
+                                             uint8_t *stored, size_t stored_length)
+{
+    const size_t closed = rushhopper_record_of(rack, who).slot;
+    const struct rushhopper_log log = rushhopper_log_of(rack, who);
+
+    if (who.number >= rack->numbers.n)
+        return RUSHHOPPER_NO_SUCH_REPLICA;
+    if (closed > rack->numbers.slots)
+        return RUSHHOPPER_SPOILED_RECORD;
+    if (!rushhopper_has_record(rack, who) || log.length < closed)
+        return RUSHHOPPER_SHORT_TABLE;
+    return rushhopper_to_planes(log.entries, log.length, stored, stored_length);
 }
 
 /* The record goes to the library and back, since a pointer into the words is not one to a record. A replica of the run whose
@@ -411,7 +473,7 @@ static inline const char *rushhopper_word(size_t refusal)
         "accepted", "bad plan", "short table", "spoiled record", "no such bench", "dark", "blank tag", "held",
         "tag room full", "unknown tag", "busy", "log full", "nothing pending", "idle", "too few heard",
         "phases used up", "no such message", "unsent", "heard", "unknown kind", "cut record", "out of place",
-        "not level", "too few lit"
+        "not level", "too few lit", "odd length"
     };
 
     return refusal < sizeof words / sizeof words[0] ? words[refusal] : "no such refusal";

@@ -1,4 +1,5 @@
-/* Tries include/rushhopper.h on the library, as C99 and as C++: lengths, readers, words, and what the calls on a struct keep.
+/* Tries include/rushhopper.h on the library, as C99 and as C++: lengths, readers, words, the archive, and what the calls on a
+ * struct keep.
  * Writes each expectation that fails, and ends with 1 if any did.
  *
  *     gcc -std=c99 -Wall -Wextra -pedantic -I include tests/header/header.c FOLDER/librushhopper.a -o header
@@ -72,7 +73,10 @@ static void bytes_are_those_of_the_readme(void)
 static void nothing_goes_before_an_opening(void)
 {
     const struct rushhopper_numbers bad = {4, 2, 2, 4, 4}, larger = {4, 1, 2, 16, 4};
+    uint8_t stored[8];
 
+    EXPECT(rushhopper_log_of(&rack, zero).length == 0);
+    EXPECT(rushhopper_store_log_in(&rack, zero, stored, sizeof stored) == RUSHHOPPER_NO_SUCH_REPLICA);
     EXPECT(rushhopper_submit_in(&rack, zero, 5) == RUSHHOPPER_SPOILED_RECORD);
     EXPECT(rushhopper_crash_in(&rack, zero) == RUSHHOPPER_SPOILED_RECORD);
     EXPECT(rushhopper_conduct_in(&rack).refusal == RUSHHOPPER_SPOILED_RECORD);
@@ -731,6 +735,178 @@ static void refused_steps_are_passed_over(void)
     expect_not_conducted(RUSHHOPPER_NOT_LEVEL);
 }
 
+/* What the archive takes, and one entry more. Outputs are filled with one byte first, to see what a call has touched. */
+enum { ENTRIES = RUSHHOPPER_MOST_ENTRIES + 1, UNTOUCHED = 165 };
+
+static struct { uint64_t entries[ENTRIES]; uint8_t stored[8 * ENTRIES]; } given, written;
+
+/* Numbers and bytes of no order. */
+static void fill_given(void)
+{
+    size_t i;
+
+    for (i = 0; i < ENTRIES; i++)
+        given.entries[i] = (i + 1) * 0x9e3779b97f4a7c15u;
+    for (i = 0; i < sizeof given.stored; i++)
+        given.stored[i] = (uint8_t)(given.entries[i / 8] >> 3 * (i % 8));
+    memset(&written, UNTOUCHED, sizeof written);
+}
+
+static int is_untouched(const void *output, size_t length)
+{
+    const uint8_t *const bytes = (const uint8_t *)output;
+    size_t i;
+
+    for (i = 0; i < length; i++)
+        if (bytes[i] != UNTOUCHED)
+            return 0;
+    return 1;
+}
+
+/* Whether each byte occurs as often in one as in the other. */
+static int has_the_same_bytes(const void *left, const void *right, size_t length)
+{
+    const uint8_t *const left_bytes = (const uint8_t *)left, *const right_bytes = (const uint8_t *)right;
+    size_t of_left[256] = {0}, of_right[256] = {0}, i;
+
+    for (i = 0; i < length; i++) {
+        of_left[left_bytes[i]]++;
+        of_right[right_bytes[i]]++;
+    }
+    return memcmp(of_left, of_right, sizeof of_left) == 0;
+}
+
+/* The bytes of the first entry are numbered from the highest, the second is urgent, and the third slot is empty. */
+static void planes_have_the_highest_bytes_first(void)
+{
+    static const uint64_t log[] = {0x0102030405060708u, RUSHHOPPER_URGENT + 9, 0};
+    static const uint8_t planes[] = {1, 128, 0, 2, 0, 0, 3, 0, 0, 4, 0, 0, 5, 0, 0, 6, 0, 0, 7, 0, 0, 8, 9, 0};
+
+    EXPECT(RUSHHOPPER_STORED_LENGTH(3) == sizeof planes);
+    EXPECT(rushhopper_to_planes(log, 3, written.stored, sizeof planes) == RUSHHOPPER_ACCEPTED);
+    EXPECT(memcmp(written.stored, planes, sizeof planes) == 0);
+    EXPECT(rushhopper_to_entries(planes, sizeof planes, written.entries, 3) == RUSHHOPPER_ACCEPTED);
+    EXPECT(memcmp(written.entries, log, sizeof log) == 0);
+}
+
+/* Both calls, from either side, give back what was there. The outputs are longer, and the rest of them is left alone. */
+static void the_archive_gives_back(size_t count)
+{
+    const size_t stored = RUSHHOPPER_STORED_LENGTH(count);
+
+    fill_given();
+    EXPECT(rushhopper_to_planes(given.entries, count, written.stored, sizeof written.stored) == RUSHHOPPER_ACCEPTED);
+    EXPECT(has_the_same_bytes(given.entries, written.stored, stored));
+    EXPECT(rushhopper_to_entries(written.stored, stored, written.entries, ENTRIES) == RUSHHOPPER_ACCEPTED);
+    EXPECT(memcmp(given.entries, written.entries, stored) == 0);
+    EXPECT(rushhopper_to_entries(given.stored, stored, written.entries, ENTRIES) == RUSHHOPPER_ACCEPTED);
+    EXPECT(has_the_same_bytes(given.stored, written.entries, stored));
+    EXPECT(rushhopper_to_planes(written.entries, count, written.stored, sizeof written.stored) == RUSHHOPPER_ACCEPTED);
+    EXPECT(memcmp(given.stored, written.stored, stored) == 0);
+    EXPECT(is_untouched(written.stored + stored, sizeof written.stored - stored));
+    EXPECT(is_untouched(written.entries + count, sizeof written.entries - stored));
+}
+
+/* Each refusal while those behind it are due too, and the lengths on both sides of it; none writes anything. */
+static void the_archive_refuses_in_its_order(void)
+{
+    static const struct { size_t entries, stored, refusal; } of_entries[] = {
+        {0, 0, 0}, {1, 8, 0}, {1024, 8192, 0}, {1025, 8200, 1}, {1025, 8199, 1}, {1025, 0, 1}, {1024, 8191, 2}, {1024, 0, 2},
+        {2, 15, 2}, {1, 7, 2}, {1, 0, 2}
+    };
+    static const struct { size_t stored, entries, refusal; } of_stored[] = {
+        {0, 0, 0}, {8, 1, 0}, {8192, 1024, 0}, {8200, 1025, 1}, {8193, 1025, 1}, {8193, 0, 1}, {8191, 1024, 24}, {8191, 0, 24},
+        {8188, 1024, 24}, {8185, 1024, 24}, {15, 1, 24}, {12, 2, 24}, {9, 2, 24}, {9, 0, 24}, {7, 1, 24}, {4, 1, 24}, {1, 0, 24},
+        {8192, 1023, 2}, {16, 1, 2}, {8, 0, 2}
+    };
+    size_t i;
+
+    EXPECT(RUSHHOPPER_MOST_ENTRIES == 1024 && RUSHHOPPER_MOST_ENTRIES == RUSHHOPPER_MOST_SLOTS);
+    for (i = 0; i < sizeof of_entries / sizeof of_entries[0]; i++) {
+        fill_given();
+        EXPECT(rushhopper_to_planes(given.entries, of_entries[i].entries, written.stored, of_entries[i].stored)
+               == of_entries[i].refusal);
+        EXPECT(of_entries[i].refusal == RUSHHOPPER_ACCEPTED || is_untouched(written.stored, sizeof written.stored));
+    }
+    for (i = 0; i < sizeof of_stored / sizeof of_stored[0]; i++) {
+        fill_given();
+        EXPECT(rushhopper_to_entries(given.stored, of_stored[i].stored, written.entries, of_stored[i].entries)
+               == of_stored[i].refusal);
+        EXPECT(of_stored[i].refusal == RUSHHOPPER_ACCEPTED || is_untouched(written.entries, sizeof written.entries));
+    }
+}
+
+/* Slot 0 is closed as empty, by replica 2 on a notice, and slot 1 with its urgent order. */
+static void close_both_slots(void)
+{
+    const struct rushhopper_message notice = {RUSHHOPPER_SORT_NOTICE, {0}, {0}, one};
+
+    two_close_the_first_slot(7, 9);
+    EXPECT(rushhopper_log_of(&rack, zero).length == 1 && rushhopper_log_of(&rack, two).length == 0);
+    EXPECT(rushhopper_hear_in(&rack, two, notice) == RUSHHOPPER_ACCEPTED);
+    EXPECT(rushhopper_advance_in(&rack, two) == RUSHHOPPER_ACCEPTED);
+    EXPECT(rushhopper_submit_in(&rack, two, RUSHHOPPER_URGENT + 5) == RUSHHOPPER_ACCEPTED);
+    expect_conducted(&rack, 30, 2);
+}
+
+/* Of every replica, also one that has crashed, from behind the room for tags and the proposals; of one that has closed nothing,
+ * nothing. */
+static void logs_are_stored(void)
+{
+    static const uint8_t planes[] = {0, 128, 0, 0, 0, 0, 0, 0, 0, 0, 0, 0, 0, 0, 0, 5};
+    struct rushhopper_replica who;
+
+    close_both_slots();
+    EXPECT(rushhopper_crash_in(&rack, one) == RUSHHOPPER_ACCEPTED);
+    for (who.number = 0; who.number < 3; who.number++) {
+        const struct rushhopper_log log = rushhopper_log_of(&rack, who);
+        fill_given();
+        EXPECT(log.length == 2 && log.entries == rack.orders + 4 + 2 * 3 + 2 * who.number);
+        EXPECT(log.entries[0] == 0 && log.entries[1] == RUSHHOPPER_URGENT + 5);
+        EXPECT(rushhopper_store_log_in(&rack, who, written.stored, sizeof written.stored) == RUSHHOPPER_ACCEPTED);
+        EXPECT(memcmp(written.stored, planes, sizeof planes) == 0);
+        EXPECT(is_untouched(written.stored + sizeof planes, sizeof written.stored - sizeof planes));
+    }
+    EXPECT(rushhopper_open_in(&rack, three, 0) == RUSHHOPPER_ACCEPTED);
+    fill_given();
+    EXPECT(rushhopper_store_log_in(&rack, zero, written.stored, 0) == RUSHHOPPER_ACCEPTED);
+    EXPECT(is_untouched(written.stored, sizeof written.stored));
+}
+
+static void expect_not_stored(struct rushhopper_replica who, size_t stored_length, size_t refusal)
+{
+    fill_given();
+    EXPECT(rushhopper_store_log_in(&rack, who, written.stored, stored_length) == refusal);
+    EXPECT(is_untouched(written.stored, sizeof written.stored));
+}
+
+/* Replica 2's log is the last of the orders. Without its last word or entry a memory still has the others' records and logs. By
+ * the numbers alone, the entries that nobody has would be a proposal and an entry of replica 1. */
+static void logs_that_are_not_there_are_refused(void)
+{
+    const struct rushhopper_slot first = {0}, past = {3};
+
+    close_both_slots();
+    EXPECT(rushhopper_entry_of(&rack, farthest, first) == 0 && rushhopper_entry_of(&rack, zero, past) == 0);
+    expect_not_stored(beyond, 16, RUSHHOPPER_NO_SUCH_REPLICA);
+    expect_not_stored(farthest, 0, RUSHHOPPER_NO_SUCH_REPLICA);
+    EXPECT(rushhopper_log_of(&rack, beyond).length == 0 && rushhopper_log_of(&rack, farthest).length == 0);
+    expect_not_stored(two, 15, RUSHHOPPER_SHORT_TABLE);
+    rack.words_length = 12;
+    expect_not_stored(two, 16, RUSHHOPPER_SHORT_TABLE);
+    EXPECT(rushhopper_store_log_in(&rack, one, written.stored, 16) == RUSHHOPPER_ACCEPTED);
+    rack.words_length = rushhopper_words_length(rack.numbers);
+    --rack.orders_length;
+    expect_not_stored(two, 16, RUSHHOPPER_SHORT_TABLE);
+    EXPECT(rushhopper_log_of(&rack, two).length == 0 && rushhopper_log_of(&rack, one).length == 2);
+    rack.orders_length = 0;
+    expect_not_stored(one, 16, RUSHHOPPER_SHORT_TABLE);
+    rack.words[1 + 4 * one.number + 2] = 3;
+    expect_not_stored(one, 0, RUSHHOPPER_SPOILED_RECORD);
+    rack.orders_length = rushhopper_orders_length(rack.numbers);
+    EXPECT(rushhopper_log_of(&rack, one).length == 0 && rushhopper_log_of(&rack, two).length == 2);
+}
+
 static void words_are_the_documents(void)
 {
     static const struct { size_t refusal; const char *word; } expected[] = {
@@ -743,14 +919,43 @@ static void words_are_the_documents(void)
         {RUSHHOPPER_NO_SUCH_MESSAGE, "no such message"}, {RUSHHOPPER_NOT_SENT, "unsent"},
         {RUSHHOPPER_ALREADY_HEARD, "heard"}, {RUSHHOPPER_UNKNOWN_KIND, "unknown kind"},
         {RUSHHOPPER_CUT_RECORD, "cut record"}, {RUSHHOPPER_OUT_OF_PLACE, "out of place"},
-        {RUSHHOPPER_NOT_LEVEL, "not level"}, {RUSHHOPPER_TOO_FEW_RUNNING, "too few lit"}
+        {RUSHHOPPER_NOT_LEVEL, "not level"}, {RUSHHOPPER_TOO_FEW_RUNNING, "too few lit"},
+        {RUSHHOPPER_ODD_LENGTH, "odd length"}
     };
     size_t i;
 
     for (i = 0; i < sizeof expected / sizeof expected[0]; i++)
         EXPECT(strcmp(rushhopper_word(expected[i].refusal), expected[i].word) == 0);
-    EXPECT(RUSHHOPPER_NOT_LEVEL == 22 && RUSHHOPPER_TOO_FEW_RUNNING == 23);
-    EXPECT(strcmp(rushhopper_word(RUSHHOPPER_TOO_FEW_RUNNING + 1), "no such refusal") == 0);
+    EXPECT(RUSHHOPPER_NOT_LEVEL == 22 && RUSHHOPPER_TOO_FEW_RUNNING == 23 && RUSHHOPPER_ODD_LENGTH == 24);
+    EXPECT(strcmp(rushhopper_word(RUSHHOPPER_ODD_LENGTH + 1), "no such refusal") == 0);
+}
+
+static void step_files_are_played(void)
+{
+    a_file_is_played();
+    a_player_refuses_what_its_memories_cannot_hold();
+    more_than_16_phases_are_refused();
+    wide_records_give_the_same_steps(2);
+    wide_records_give_the_same_steps(255);
+    wide_records_give_the_same_steps(256);
+    wide_records_give_the_same_steps(300);
+    a_player_takes_bands_by_its_numbers();
+    no_report_fills_the_length_for_it();
+    no_long_lines_fill_the_length_for_them();
+}
+
+static void logs_are_archived(void)
+{
+    planes_have_the_highest_bytes_first();
+    the_archive_gives_back(0);
+    the_archive_gives_back(1);
+    the_archive_gives_back(2);
+    the_archive_gives_back(255);
+    the_archive_gives_back(256);
+    the_archive_gives_back(1024);
+    the_archive_refuses_in_its_order();
+    logs_are_stored();
+    logs_that_are_not_there_are_refused();
 }
 
 int main(void)
@@ -782,16 +987,8 @@ int main(void)
     a_notice_makes_a_rack_level();
     records_alone_keep_a_rack_from_being_level();
     refused_steps_are_passed_over();
-    a_file_is_played();
-    a_player_refuses_what_its_memories_cannot_hold();
-    more_than_16_phases_are_refused();
-    wide_records_give_the_same_steps(2);
-    wide_records_give_the_same_steps(255);
-    wide_records_give_the_same_steps(256);
-    wide_records_give_the_same_steps(300);
-    a_player_takes_bands_by_its_numbers();
-    no_report_fills_the_length_for_it();
-    no_long_lines_fill_the_length_for_them();
+    step_files_are_played();
+    logs_are_archived();
     words_are_the_documents();
     return failed;
 }
