@@ -31,6 +31,8 @@
 //! # Ok::<(), Refusal>(())
 //! ```
 //!
+//! [`archive`] lays a log out for the archive, by byte plane, and back.
+//!
 //! Replicas, slots and phases are separate types, and one is not accepted for another:
 //!
 //! ```compile_fail,E0308
@@ -42,6 +44,7 @@
 //!
 //! Document 01 says "controller" for replica, "spare" for f, "quota" for quorum, "lit" for running and "dark" for crashed.
 
+pub mod archive;
 mod numbers;
 mod play;
 mod rack;

@@ -102,6 +102,32 @@ extern "C" {
         strip_length: usize,
     ) -> usize;
     fn rushhopper_crash(numbers: Numbers, who: Replica, record: *mut Words) -> usize;
+    fn rushhopper_to_planes(
+        entries: *const u64,
+        entries_length: usize,
+        stored: *mut u8,
+        stored_length: usize,
+    ) -> usize;
+    fn rushhopper_to_entries(
+        stored: *const u8,
+        stored_length: usize,
+        entries: *mut u64,
+        entries_length: usize,
+    ) -> usize;
+}
+
+pub fn to_planes(entries: &[u64], stored: &mut [u8]) -> Result<(), Refusal> {
+    // Sound: both are lent with their lengths, and what is borrowed to be changed overlaps nothing.
+    accepted(unsafe {
+        rushhopper_to_planes(entries.as_ptr(), entries.len(), stored.as_mut_ptr(), stored.len())
+    })
+}
+
+pub fn to_entries(stored: &[u8], entries: &mut [u64]) -> Result<(), Refusal> {
+    // Sound: as above.
+    accepted(unsafe {
+        rushhopper_to_entries(stored.as_ptr(), stored.len(), entries.as_mut_ptr(), entries.len())
+    })
 }
 
 /// Calls a function with its arguments and the memories.

@@ -4,7 +4,7 @@ use std::error::Error;
 use std::fmt;
 
 /// The refusals of documents 01 and 02 with their numbers; `Display` gives the document's own word. 19, 20 and 21 occur in
-/// step files only, 22 and 23 in none.
+/// step files only, 22, 23 and 24 in none.
 #[derive(Clone, Copy, Debug, PartialEq, Eq, Hash)]
 pub enum Refusal {
     BadPlan = 1,
@@ -30,10 +30,11 @@ pub enum Refusal {
     OutOfPlace = 21,
     NotLevel = 22,
     TooFewRunning = 23,
+    OddLength = 24,
 }
 
 /// By their numbers, from 1.
-const WORDS: [(Refusal, &str); 23] = [
+const WORDS: [(Refusal, &str); 24] = [
     (Refusal::BadPlan, "bad plan"),
     (Refusal::ShortTable, "short table"),
     (Refusal::SpoiledRecord, "spoiled record"),
@@ -57,6 +58,7 @@ const WORDS: [(Refusal, &str); 23] = [
     (Refusal::OutOfPlace, "out of place"),
     (Refusal::NotLevel, "not level"),
     (Refusal::TooFewRunning, "too few lit"),
+    (Refusal::OddLength, "odd length"),
 ];
 
 impl Refusal {
@@ -102,6 +104,6 @@ mod tests {
             assert_eq!(Refusal::of_number(place + 1), Some(refusal));
             assert_eq!(refusal.to_string(), word);
         }
-        assert_eq!((Refusal::of_number(0), Refusal::of_number(24)), (None, None));
+        assert_eq!((Refusal::of_number(0), Refusal::of_number(25)), (None, None));
     }
 }
