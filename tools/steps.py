@@ -136,6 +136,7 @@ REFUSALS = {
     21: ("out of place", "step before an accepted opening, or opening after one"),
     22: ("not level", "conductor: not all lit ones idle at one slot, or a message of that slot was sent"),
     23: ("too few lit", "conductor: fewer lit than the quota"),
+    24: ("odd length", "archive: stored bytes that are no multiple of 8"),
 }
 
 
@@ -224,21 +225,21 @@ def read_line(words):
     raise Mistakes([f"no step is called '{words[0]}'; expected {', '.join(others)} or {last}"])
 
 
-def read_text(name, text):
-    """The steps of a text by their line numbers; `name` is the file's, for what is said of mistakes."""
-    steps = {}
+def read_text(name, text, read=read_line):
+    """What the lines of a text say, here steps, by their numbers; `name` is the file's, for what is said of mistakes."""
+    lines = {}
     mistakes = []
     for line, content in enumerate(text.split("\n"), 1):
         words = content.partition("#")[0].split()
         if not words:
             continue
         try:
-            steps[line] = read_line(words)
+            lines[line] = read(words)
         except Mistakes as found:
             mistakes += [f"{name}:{line}: {mistake}" for mistake in found.lines]
     if mistakes:
         raise Mistakes(mistakes)
-    return steps
+    return lines
 
 
 def tag_text(tag):
@@ -342,10 +343,13 @@ def read_input(name):
         raise Mistakes([f"{name}: {error.strerror}"]) from error
 
 
-def read_readable(name):
+def shown_name(name):
+    return "standard input" if name == "-" else name
+
+
+def read_readable(name, read=read_line):
     """Comments may be in any encoding; a byte-order mark at the start is passed over."""
-    shown = "standard input" if name == "-" else name
-    return read_text(shown, read_input(name).decode("utf-8-sig", "replace"))
+    return read_text(shown_name(name), read_input(name).decode("utf-8-sig", "replace"), read)
 
 
 def read_records(name):
@@ -380,11 +384,12 @@ def explain(arguments):
         print(line)
 
 
-def read_arguments():
-    parser = argparse.ArgumentParser(description=__doc__, formatter_class=argparse.RawDescriptionHelpFormatter)
-    commands = parser.add_subparsers(required=True, metavar="COMMAND")
-    for run, about in ((pack, "text to step file"), (unpack, "step file to text"), (explain, "a report explained")):
-        command = commands.add_parser(run.__name__, help=about)
+def read_arguments(about, commands):
+    """What the command line asks for; `commands` has each by what it does."""
+    parser = argparse.ArgumentParser(description=about, formatter_class=argparse.RawDescriptionHelpFormatter)
+    added = parser.add_subparsers(required=True, metavar="COMMAND")
+    for does, run in commands.items():
+        command = added.add_parser(run.__name__, help=does)
         command.add_argument("file", metavar="FILE", help="- is standard input")
         if run is explain:
             command.add_argument("report", metavar="REPORT", help="what the rehearsal program wrote of FILE")
@@ -392,8 +397,8 @@ def read_arguments():
     return parser.parse_args()
 
 
-def main():
-    arguments = read_arguments()
+def main(about, commands):
+    arguments = read_arguments(about, commands)
     try:
         arguments.run(arguments)
     except Mistakes as found:
@@ -401,4 +406,4 @@ def main():
 
 
 if __name__ == "__main__":
-    main()
+    main(__doc__, {"text to step file": pack, "step file to text": unpack, "a report explained": explain})

@@ -2,15 +2,10 @@
 
 import random
 import re
-import subprocess
-import sys
-import tempfile
 import unittest
-from pathlib import Path
+from functools import partial
 
-ROOT = Path(__file__).resolve().parents[2]
-TOOL = ROOT / "tools" / "steps.py"
-sys.path.insert(0, str(TOOL.parent))
+import trying
 
 import steps
 
@@ -65,9 +60,7 @@ def mistakes(text):
     return []
 
 
-def command(*arguments, given=b""):
-    done = subprocess.run([sys.executable, TOOL, *arguments], input=given, capture_output=True, check=False)
-    return done.returncode, done.stdout, done.stderr.decode()
+command = partial(trying.command, "steps.py")
 
 
 class Layout(unittest.TestCase):
@@ -323,18 +316,8 @@ class Logs(unittest.TestCase):
             self.check(f"{start} 6012954214402")
 
 
-class Commands(unittest.TestCase):
+class Commands(trying.InFolder):
     """The command line: what is written where, and the exit status."""
-
-    def setUp(self):
-        folder = tempfile.TemporaryDirectory()
-        self.addCleanup(folder.cleanup)
-        self.folder = Path(folder.name)
-
-    def file(self, name, data):
-        path = self.folder / name
-        path.write_bytes(data)
-        return path
 
     def test_help_has_the_text_of_steps(self):
         status, written, _ = command("--help")
@@ -348,7 +331,7 @@ class Commands(unittest.TestCase):
         self.assertIn("wide opening 3 1 2 4 4 0 wide hear 0 1 vote 0 1", said)
 
     def test_worked_session(self):
-        text = ROOT / "examples" / "worked_session.txt"
+        text = trying.ROOT / "examples" / "worked_session.txt"
         self.assertEqual(command("pack", text), (0, WORKED_BYTES, ""))
         self.assertEqual(command("pack", "-", given=text.read_bytes()), (0, WORKED_BYTES, ""))
         status, unpacked_text, _ = command("unpack", self.file("worked.steps", WORKED_BYTES))
@@ -390,7 +373,7 @@ class Commands(unittest.TestCase):
             self.assertEqual(steps.read_steps(bytes([kind]) + bytes(20)), ([], broken))
 
     def test_explain_text(self):
-        text, report = (ROOT / "examples" / f"worked_session.{end}" for end in ("txt", "report"))
+        text, report = (trying.ROOT / "examples" / f"worked_session.{end}" for end in ("txt", "report"))
         self.assertEqual(command("explain", text, report), (0, WORKED_EXPLAINED.encode(), ""))
         self.assertEqual(command("explain", text, "-", given=report.read_bytes())[1].decode(), WORKED_EXPLAINED)
 
@@ -435,20 +418,21 @@ class Commands(unittest.TestCase):
         for line, why in (
             ("refused 2 21", "the file ends with record 1"),
             ("refused 0 21", "the file ends with record 1"),
-            ("refused 1 24", "no refusal has this number"),
+            ("refused 1 25", "no refusal has this number"),
         ):
             self.assertEqual(command("explain", path, "-", given=line.encode()), (1, b"", f"'{line}': {why}\n"))
         both = "FILE and REPORT cannot both be standard input\n"
         self.assertEqual(command("explain", "-", "-"), (1, b"", both))
 
     def test_every_refusal_has_its_words(self):
-        self.assertEqual(sorted(steps.REFUSALS), list(range(1, 24)))
-        self.assertEqual([steps.REFUSALS[number][0] for number in (22, 23)], ["not level", "too few lit"])
+        self.assertEqual(sorted(steps.REFUSALS), list(range(1, 25)))
+        words = [steps.REFUSALS[number][0] for number in (22, 23, 24)]
+        self.assertEqual(words, ["not level", "too few lit", "odd length"])
 
 
 class Examples(unittest.TestCase):
     def test_comments_name_the_refusals_of_the_reports(self):
-        for text in sorted((ROOT / "examples").glob("*.txt")):
+        for text in sorted((trying.ROOT / "examples").glob("*.txt")):
             said = re.findall(r"^[^#\n]+# refused, ([0-9]+)", text.read_text(), re.MULTILINE)
             lines = text.with_suffix(".report").read_text().splitlines()
             with self.subTest(text.name):
