@@ -1,6 +1,7 @@
 //! Document 01's check points C1 to C10, "Further" and its worked session, and refusals 3 and 2 of short memories; C11
 //! stands beside the coin table. Those of document 02 stand in a file for each request.
 
+mod archive;
 mod bands;
 mod conductor;
 mod notices;

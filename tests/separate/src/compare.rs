@@ -7,6 +7,7 @@ use crate::memories::Memories;
 use crate::numbers::Numbers;
 use crate::refusal::Refusal;
 use crate::step_file::{self, Played};
+use std::fmt::Debug;
 
 /// What differed, in words.
 pub type Difference = String;
@@ -102,7 +103,7 @@ fn first_difference(ours: &Memories, theirs: &Memories) -> Difference {
 }
 
 /// The first cell in which two memories of equal length differ.
-fn first_cell<T: PartialEq + std::fmt::Debug>(memory: &str, ours: &[T], theirs: &[T]) -> Option<Difference> {
+pub fn first_cell<T: PartialEq + Debug>(memory: &str, ours: &[T], theirs: &[T]) -> Option<Difference> {
     let place = ours.iter().zip(theirs).position(|(one, other)| one != other)?;
     Some(format!("{memory}, cell {place}\nours {:?}\nlibrary's {:?}", ours[place], theirs[place]))
 }

@@ -1,7 +1,10 @@
-//! Document 01's order log with requests 1 to 6 of document 02, written from the documents and apart from the library, and
+//! Document 01's order log with requests 1 to 7 of document 02, written from the documents and apart from the library, and
 //! what compares the two: by whole step files (the program `sessions`), by direct calls on ordinary and damaged memories
-//! (`calls`), and in time (`bench`).
+//! (`calls`), by logs for the archive (`archives`), and in time (`bench`).
 
+pub mod archive;
+#[cfg(feature = "library")]
+pub mod archived;
 pub mod bands;
 #[cfg(feature = "library")]
 pub mod batch;
@@ -19,9 +22,11 @@ pub mod damage;
 pub mod filled;
 #[cfg(feature = "library")]
 pub mod fixed;
+pub mod framed;
 pub mod generate;
 #[cfg(feature = "library")]
 pub mod library;
+pub mod logs;
 pub mod long_runs;
 pub mod memories;
 pub mod notices;
@@ -29,6 +34,7 @@ pub mod numbers;
 pub mod options;
 pub mod orders;
 pub mod phases;
+pub mod planes;
 pub mod racks;
 pub mod random;
 pub mod rank;

@@ -90,6 +90,18 @@ extern "C" {
         strip_length: usize,
     ) -> usize;
     fn rushhopper_crash(numbers: Numbers, who: Replica, record: *mut Record) -> usize;
+    fn rushhopper_to_planes(
+        entries: *const u64,
+        entries_length: usize,
+        stored: *mut u8,
+        stored_length: usize,
+    ) -> usize;
+    fn rushhopper_to_entries(
+        stored: *const u8,
+        stored_length: usize,
+        entries: *mut u64,
+        entries_length: usize,
+    ) -> usize;
 }
 
 /// Calls a function of the header with the arguments and the memories.
@@ -116,6 +128,14 @@ pub fn fill_strip(slots: usize, phases: usize, start: usize, strip: &mut [u8]) -
 
 pub fn crash(numbers: &Numbers, who: usize, record: &mut Record) -> usize {
     unsafe { rushhopper_crash(*numbers, Replica { number: who }, record) }
+}
+
+pub fn to_planes(entries: &[u64], stored: &mut [u8]) -> usize {
+    unsafe { rushhopper_to_planes(entries.as_ptr(), entries.len(), stored.as_mut_ptr(), stored.len()) }
+}
+
+pub fn to_entries(stored: &[u8], entries: &mut [u64]) -> usize {
+    unsafe { rushhopper_to_entries(stored.as_ptr(), stored.len(), entries.as_mut_ptr(), entries.len()) }
 }
 
 /// Makes the call of the library; the counterpart of `Call::make`.

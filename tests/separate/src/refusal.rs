@@ -26,6 +26,7 @@ pub enum Refusal {
     OutOfPlace,
     NotLevel,
     TooFewLit,
+    OddLength,
 }
 
 impl Refusal {

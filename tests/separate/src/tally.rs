@@ -56,6 +56,14 @@ pub fn occurred(facts: impl IntoIterator<Item = (&'static str, bool)>) -> Vec<&'
     facts.into_iter().filter(|(_, holds)| *holds).map(|(event, _)| event).collect()
 }
 
+/// The name of a call's answer, 0 or the refusal's number.
+pub fn answer_name(call: &str, answer: usize) -> String {
+    match answer {
+        0 => format!("{call}, accepted"),
+        refusal => format!("{call}, refused {refusal}"),
+    }
+}
+
 /// How often each thing occurred, under its name.
 pub struct Tally {
     counts: BTreeMap<String, u64>,

@@ -2,6 +2,7 @@
 //! ordinary and damaged memories. Answers, values and every cell of every memory must be equal after each, and each
 //! refusal of each call, each event and each kind of damage must have occurred.
 
+use separate::archived::compare_log;
 use separate::bands;
 use separate::call::{Call, Done};
 use separate::coin::PATTERN;
@@ -20,13 +21,14 @@ use separate::notices;
 use separate::numbers::{Message, Numbers, Sort, LARGEST, MOST_REPLICAS, MOST_SLOTS, USUAL_PHASES};
 use separate::options::number;
 use separate::phases;
+use separate::planes;
 use separate::racks::{lead_on, LEADS};
 use separate::random::Random;
 use separate::refusal::Refusal;
 use separate::rules::{self, Advanced};
 use separate::script::Script;
 use separate::strips;
-use separate::tally::{Tally, EVENTS};
+use separate::tally::{answer_name, Tally, EVENTS};
 use separate::urgent;
 use std::process::ExitCode;
 
@@ -83,21 +85,15 @@ fn expected() -> impl Iterator<Item = String> {
     });
     let damages = DAMAGES.iter().chain(&LEVEL_DAMAGES).map(|(name, _)| format!("damage: {name}"));
     let racks = LEADS.iter().map(|(name, _)| format!("rack: {name}"));
-    let others = ["other numbers than the run's", "played a step file"];
+    let others = ["other numbers than the run's", "played a step file"].into_iter();
     let noticed = notices::EVENTS.into_iter().chain(notices::EVENTS_OF_DAMAGE);
     let conducted = conducted::EVENTS.into_iter().chain(conducted::EVENTS_OF_DAMAGE).chain(CONDUCTED);
     let events =
         EVENTS.into_iter().chain(noticed).chain(phases::EVENTS).chain(strips::EVENTS).chain(conducted);
     let bands = bands::EVENTS.into_iter().chain(bands::EVENTS_OF_CALLS);
-    let events = events.chain(urgent::EVENTS).chain(bands).chain(others).chain(UNMARKED).map(str::to_string);
+    let others = others.chain(UNMARKED).chain(planes::EVENTS_OF_RUNS);
+    let events = events.chain(urgent::EVENTS).chain(bands).chain(others).map(str::to_string);
     refusals.chain(events).chain(damages).chain(racks)
-}
-
-fn answer_name(call: &str, refusal: usize) -> String {
-    match refusal {
-        0 => format!("{call}, accepted"),
-        refusal => format!("{call}, refused {refusal}"),
-    }
 }
 
 /// The message of the caller's own that a call rests on: the one that it would hear, or one that its advance counts.
@@ -177,6 +173,7 @@ impl Trial<'_> {
             }
             self.step()?;
         }
+        self.archive_logs()?;
         Ok(steps + 1)
     }
 
@@ -305,6 +302,17 @@ impl Trial<'_> {
 
     fn note_answer(&mut self, call: &str, result: Result<(), Refusal>) {
         self.tally.note(&answer_name(call, result.map_or_else(Refusal::number, |()| 0)));
+    }
+
+    /// In a run every replica's log is stored and read back. What it has in it is no damage's.
+    fn archive_logs(&mut self) -> Result<(), Difference> {
+        let memories = self.whole.as_ref().map_or(&self.pair.ours, |(whole, _)| whole);
+        for who in (0..self.numbers.n).filter(|_| self.is_run) {
+            let log = memories.log(&self.numbers, who, memories.slot(who));
+            compare_log(log).map_err(|difference| format!("the log of {who}: {difference}"))?;
+            planes::met_in_run(log).into_iter().for_each(|event| self.tally.note(event));
+        }
+        Ok(())
     }
 
     /// A damage is used for a few calls; then the whole memories come back, so that the run can go on. So they do after one
