@@ -1,6 +1,7 @@
 //! A case in copies that are measured together, since one call is too short for the clock. Both sides use the same
 //! copies; what a call changed is put back in between, outside the measured time.
 
+use crate::archive::{self, MOST_ENTRIES, MOST_STORED};
 use crate::call::Call;
 use crate::cases::{Case, Work};
 use crate::coin;
@@ -34,7 +35,7 @@ struct Lent {
 
 pub struct Batch {
     case: Case,
-    /// Before the call.
+    /// Before the call, and after it with all put back.
     before: Lent,
     undo: Undo,
     copies: Vec<Lent>,
@@ -51,7 +52,9 @@ impl Case {
             }
             Work::Steps(calls) => self.check_steps(calls),
             Work::Play { file } => compare_play(&self.numbers, file, REPORT, memories),
-            Work::FillStrip { .. } | Work::Crash { .. } => self.check_small(),
+            Work::FillStrip { .. } | Work::Crash { .. } | Work::ToPlanes { .. } | Work::ToEntries { .. } => {
+                self.check_small()
+            }
         }
     }
 
@@ -64,11 +67,11 @@ impl Case {
         Ok(())
     }
 
-    /// The calls that are not lent the memories; both sides must accept them.
+    /// The calls that are not lent all the memories; both sides must accept them.
     fn check_small(&self) -> Result<(), Difference> {
         let [library, separate] = [Side::Library, Side::Separate].map(|side| {
             let mut lent = self.lent();
-            (self.make(side, &mut lent), lent.memories.strip, lent.record)
+            (self.make(side, &mut lent), lent.memories, lent.record)
         });
         let right = library == separate && library.0 == 0;
         right.then_some(()).ok_or(format!("answers {} and {}", separate.0, library.0))
@@ -85,12 +88,19 @@ impl Case {
 
     /// So many that the clock's steps do not show, so few that the cells in use stay in the first cache.
     fn copies(&self) -> usize {
-        match self.work {
+        match &self.work {
             Work::Play { .. } | Work::Call(Call::Open { .. } | Call::Conduct) | Work::Steps(_) => 1,
             Work::Crash { .. } => 128,
+            Work::ToPlanes { entries } => MOST_ENTRIES / entries.len(),
+            Work::ToEntries { stored } => MOST_STORED / stored.len(),
             _ if is_long(&self.numbers) => 4,
             _ => 16,
         }
+    }
+
+    /// Whether the call does no more than write its output over: there is nothing to put back.
+    fn writes_over(&self) -> bool {
+        matches!(self.work, Work::ToPlanes { .. } | Work::ToEntries { .. })
     }
 
     /// Each side is given what the compiler cannot know, and its answer is used.
@@ -114,6 +124,8 @@ fn make_library(work: &Work, numbers: &Numbers, lent: &mut Lent) -> usize {
             library::fill_strip(numbers.slots, numbers.phases, *start, &mut memories.strip)
         }
         Work::Crash { who } => library::crash(numbers, *who, record),
+        Work::ToPlanes { entries } => library::to_planes(entries, &mut memories.ballots),
+        Work::ToEntries { stored } => library::to_entries(stored, &mut memories.orders),
         Work::Play { file } => black_box(&library::play(numbers, file, report, memories)).written,
     }
 }
@@ -129,6 +141,8 @@ fn make_separate(work: &Work, numbers: &Numbers, lent: &mut Lent) -> usize {
             refusal(&coin::fill_strip(numbers.slots, numbers.phases, *start, &mut memories.strip))
         }
         Work::Crash { who } => refusal(&rules::crash(numbers, *who, record)),
+        Work::ToPlanes { entries } => refusal(&archive::to_planes(entries, &mut memories.ballots)),
+        Work::ToEntries { stored } => refusal(&archive::to_entries(stored, &mut memories.orders)),
         Work::Play { file } => black_box(&step_file::play(numbers, file, memories)).report.len(),
     }
 }
@@ -139,9 +153,9 @@ fn refusal<T>(result: &Result<T, Refusal>) -> usize {
 
 impl Batch {
     pub fn of(case: Case) -> Batch {
-        let before = case.lent();
-        let mut after = before.clone();
+        let mut after = case.lent();
         case.make(Side::Separate, &mut after);
+        let before = if case.writes_over() { after.clone() } else { case.lent() };
         let undo = Undo::between(&before.memories, &after.memories);
         let copies = vec![before.clone(); case.copies()];
         Batch { case, before, undo, copies }

@@ -1,5 +1,6 @@
 //! What the benchmark measures: each call on the memories of a scripted run.
 
+use crate::archive::{self, PLANES};
 use crate::call::{Call, Done};
 use crate::conductor::{Conducted, Plan};
 use crate::filled::{by_rank, everyone, fill, Known};
@@ -26,6 +27,14 @@ pub enum Work {
     Play {
         file: Vec<u8>,
     },
+    /// Lent the ballots as its output, and no other memory.
+    ToPlanes {
+        entries: Vec<u64>,
+    },
+    /// Lent the orders as its output, and no other memory.
+    ToEntries {
+        stored: Vec<u8>,
+    },
 }
 
 pub type Answered = Result<Done, Refusal>;
@@ -50,8 +59,12 @@ pub struct Kind {
 }
 
 impl Kind {
+    pub fn all() -> impl Iterator<Item = &'static Kind> {
+        KINDS.iter().chain(&LONG_KINDS).chain(&ARCHIVE_KINDS)
+    }
+
     pub fn named(name: &str) -> Option<&'static Kind> {
-        KINDS.iter().chain(&LONG_KINDS).find(|kind| kind.name == name)
+        Kind::all().find(|kind| kind.name == name)
     }
 
     pub fn case(&self, numbers: &Numbers, fill: Fill) -> Case {
@@ -133,6 +146,12 @@ pub static LONG_KINDS: [Kind; 8] = [
     }),
     kind("play-full", "play, the step file of such a run", play_full, |_| true),
     kind("play-long", "play, a step file of few tags", play_long, |_| true),
+];
+
+/// Those of the archive, with a log of as many entries as slots are closed.
+pub static ARCHIVE_KINDS: [Kind; 2] = [
+    kind("to-planes", "to_planes", to_planes, |_| true),
+    kind("to-entries", "to_entries", to_entries, |_| true),
 ];
 
 /// From another start than the script's, so that cells change.
@@ -375,6 +394,26 @@ fn play_long(numbers: &Numbers, fill: Fill) -> (Script, Work) {
     (script, Work::Play { file })
 }
 
+/// An order a second, and what the archive keeps of them.
+fn log_and_planes(closed: usize) -> (Vec<u64>, Vec<u8>) {
+    let entries: Vec<u64> = (1..=closed).map(order).collect();
+    let mut stored = vec![0; PLANES * closed];
+    archive::to_planes(&entries, &mut stored).expect("a log within the limits");
+    (entries, stored)
+}
+
+fn to_planes(numbers: &Numbers, fill: Fill) -> (Script, Work) {
+    let (entries, stored) = log_and_planes(fill.closed);
+    let output = Memories { ballots: vec![0; stored.len()], ..Memories::default() };
+    (Script::going_on(numbers, output), Work::ToPlanes { entries })
+}
+
+fn to_entries(numbers: &Numbers, fill: Fill) -> (Script, Work) {
+    let (entries, stored) = log_and_planes(fill.closed);
+    let output = Memories { orders: vec![0; entries.len()], ..Memories::default() };
+    (Script::going_on(numbers, output), Work::ToEntries { stored })
+}
+
 #[cfg(test)]
 mod tests {
     use super::*;
@@ -384,7 +423,7 @@ mod tests {
     fn calls_do_what_they_are_measured_for() {
         for n in 3..=15 {
             let numbers = Numbers { n, f: (n - 1) / 2, slots: 4, phases: 2, room: 32 };
-            for kind in KINDS.iter().chain(&LONG_KINDS) {
+            for kind in Kind::all() {
                 let Case { name, mut memories, work, does, .. } =
                     kind.case(&numbers, Fill { known: 4, closed: 2 });
                 if let Work::Call(call) = work {

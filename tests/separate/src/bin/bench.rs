@@ -1,10 +1,12 @@
 //! `bench [--quick]`: nanoseconds and steps per second of each call of the library beside the separate
-//! implementation, how the library's grow, and those of the longest run, as three Markdown tables. `--quick` takes a tenth of
-//! the samples.
-//! `bench --callgrind CALL N`: the library's call many times in a rack of N replicas, to count instructions.
+//! implementation, how the library's grow, those of the longest run and those of the archive, as four Markdown tables.
+//! `--quick` takes a tenth of the samples.
+//! `bench --callgrind CALL N`: the library's call many times in a rack of N replicas, or of the archive with N entries, to
+//! count instructions.
 
+use separate::archive::MOST_ENTRIES;
 use separate::batch::{clock, Batch, Side};
-use separate::cases::{Case, Kind, KINDS, LONG_KINDS};
+use separate::cases::{Case, Kind, ARCHIVE_KINDS, KINDS, LONG_KINDS};
 use separate::numbers::{Numbers, MOST_ROOM, MOST_SLOTS, USUAL_PHASES};
 use separate::script::Fill;
 use std::env;
@@ -23,6 +25,11 @@ const PLAYED_LONG: Fill = Fill { known: 8, closed: 1024 };
 /// How a begin of the longest run grows, beside `FULL`.
 const GROWN: [Fill; 3] =
     [Fill { known: 64, closed: 63 }, Fill { known: 256, closed: 255 }, Fill { known: 1024, closed: 0 }];
+/// The entries of logs for the archive.
+const ARCHIVED: [usize; 3] = [16, 64, MOST_ENTRIES];
+/// What is said of a call of both sides.
+const COLUMNS: &str =
+    "library, ns | separate, ns | library, million/s | separate, million/s | ratio | 10 % to 90 %";
 /// Calls that take long by themselves.
 const SLOW: [&str; 7] = [
     "play",
@@ -140,15 +147,20 @@ fn longest(n: usize) -> Numbers {
     Numbers { room: MOST_ROOM, ..numbers(n, MOST_SLOTS) }
 }
 
-/// Where a call is measured in a rack of n, if not said otherwise.
+/// Where a call is measured in a rack of n, if not said otherwise; one of the archive with n entries.
 fn usual_point(kind: &Kind, n: usize) -> Point {
     match kind.name {
         "play" => (numbers(n, 64), PLAYED),
         "play-long" => (longest(n), PLAYED_LONG),
         "submit-last" => (longest(n), BUT_ONE),
         name if LONG_KINDS.iter().any(|long| long.name == name) => (longest(n), FULL),
+        _ if is_archive(kind) => (numbers(GROWING, n), Fill { known: n, closed: n }),
         _ => rack(n),
     }
+}
+
+fn is_archive(kind: &Kind) -> bool {
+    ARCHIVE_KINDS.iter().any(|other| other.name == kind.name)
 }
 
 fn case(kind: &Kind, (numbers, fill): Point) -> Case {
@@ -157,15 +169,15 @@ fn case(kind: &Kind, (numbers, fill): Point) -> Case {
 
 fn named(name: &str) -> Result<&'static Kind, String> {
     Kind::named(name).ok_or_else(|| {
-        let names: Vec<&str> = KINDS.iter().chain(&LONG_KINDS).map(|kind| kind.name).collect();
+        let names: Vec<&str> = Kind::all().map(|kind| kind.name).collect();
         format!("{name} is none of {}", names.join(", "))
     })
 }
 
 /// All is checked before anything is measured or printed.
 fn print_tables(samples: usize) -> Result<(), String> {
-    let (beside, longest) = (cases_beside(), cases_longest());
-    for &(kind, point) in beside.iter().chain(&cases_growing()?).chain(&longest) {
+    let (beside, longest, archive) = (cases_beside(), cases_longest(), cases_archive());
+    for &(kind, point) in beside.iter().chain(&cases_growing()?).chain(&longest).chain(&archive) {
         let case = case(kind, point);
         case.check().map_err(|difference| format!("{}: {difference}", case.name))?;
     }
@@ -176,16 +188,27 @@ fn print_tables(samples: usize) -> Result<(), String> {
         println!("{}", row_growing(series, samples)?);
     }
     println!("\nThe longest run:\n");
-    print_beside(longest, samples)
+    print_beside(longest, samples)?;
+    println!("\nLogs for the archive:\n");
+    print_archive(archive, samples)
 }
 
 fn print_beside(cases: Vec<(&Kind, Point)>, samples: usize) -> Result<(), String> {
-    let columns =
-        "library, ns | separate, ns | library, million/s | separate, million/s | ratio | 10 % to 90 %";
-    println!("| call | known tags, closed slots | n | {columns} |");
+    println!("| call | known tags, closed slots | n | {COLUMNS} |");
     println!("|---|---:|---:|---:|---:|---:|---:|---:|---:|");
     for (kind, point) in cases {
-        println!("{}", row_beside(kind, point, samples)?);
+        let (Numbers { n, .. }, Fill { known, closed }) = point;
+        println!("| {} | {known}, {closed} | {n} | {} |", kind.words, beside(kind, point, samples)?);
+    }
+    Ok(())
+}
+
+fn print_archive(cases: Vec<(&Kind, Point)>, samples: usize) -> Result<(), String> {
+    println!("| call | entries | {COLUMNS} |");
+    println!("|---|---:|---:|---:|---:|---:|---:|---:|");
+    for (kind, point) in cases {
+        let (_, Fill { closed, .. }) = point;
+        println!("| {} | {closed} | {} |", kind.words, beside(kind, point, samples)?);
     }
     Ok(())
 }
@@ -214,6 +237,10 @@ fn cases_longest() -> Vec<(&'static Kind, Point)> {
     cases
 }
 
+fn cases_archive() -> Vec<(&'static Kind, Point)> {
+    ARCHIVE_KINDS.iter().flat_map(|kind| ARCHIVED.map(|entries| (kind, usual_point(kind, entries)))).collect()
+}
+
 fn cases_growing() -> Result<Vec<(&'static Kind, Point)>, String> {
     let mut cases = Vec::new();
     for Series { name, values, point, .. } in &SERIES {
@@ -223,8 +250,8 @@ fn cases_growing() -> Result<Vec<(&'static Kind, Point)>, String> {
     Ok(cases)
 }
 
-fn row_beside(kind: &Kind, point: Point, samples: usize) -> Result<String, String> {
-    let (Numbers { n, .. }, fill) = point;
+/// The `COLUMNS` of a case.
+fn beside(kind: &Kind, point: Point, samples: usize) -> Result<String, String> {
     let mut batches = [Batch::of(case(kind, point))];
     let measured = interleave(&mut batches, &[Side::Library, Side::Separate], samples_of(kind, samples))?;
     let [library, separate] = [&measured[0], &measured[1]];
@@ -232,10 +259,7 @@ fn row_beside(kind: &Kind, point: Point, samples: usize) -> Result<String, Strin
         library.iter().zip(separate).map(|(library, separate)| library / separate).collect();
     let [library, separate] = [library, separate].map(|times| percentile(times, 50));
     Ok(format!(
-        "| {} | {}, {} | {n} | {} | {} | {} | {} | {:.2} | {:.2} to {:.2} |",
-        kind.words,
-        fill.known,
-        fill.closed,
+        "{} | {} | {} | {} | {:.2} | {:.2} to {:.2}",
         rounded(library),
         rounded(separate),
         millions(library),
@@ -322,9 +346,14 @@ fn listed(values: impl Iterator<Item = String>) -> String {
 /// Under callgrind: `valgrind --tool=callgrind --toggle-collect='rushhopper_*'` counts the library alone.
 fn repeat(name: &str, n: &str) -> Result<(), String> {
     let kind = named(name)?;
-    let n: usize = n.parse().map_err(|_| format!("{n} is no number of replicas"))?;
-    if !(3..=15).contains(&n) {
-        return Err("the scripts want 3 to 15 replicas".to_string());
+    let n: usize = n.parse().map_err(|_| format!("{n} is no number"))?;
+    let (within, wanted) = if is_archive(kind) {
+        (1..=MOST_ENTRIES, "the archive wants 1 to 1,024 entries")
+    } else {
+        (3..=15, "the scripts want 3 to 15 replicas")
+    };
+    if !within.contains(&n) {
+        return Err(wanted.to_string());
     }
     let mut batch = Batch::of(case(kind, usual_point(kind, n)));
     let rounds = if SLOW.contains(&kind.name) { 10 } else { 100 };
