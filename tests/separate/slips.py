@@ -3,7 +3,7 @@
 comparison with the library sees each. The library is right and the slipped copy is not, so a slip that goes unseen
 is a gap in the generated inputs.
 
-    slips.py --lib FOLDER --program REHEARSE [--seed N] [--calls K] [--sessions K] [--only WORD]
+    slips.py --lib FOLDER --program REHEARSE [--seed N] [--calls K] [--sessions K] [--archives K] [--only WORD]
 """
 
 import argparse
@@ -15,6 +15,9 @@ import sys
 import tempfile
 
 PACKAGE = pathlib.Path(__file__).resolve().parent
+
+# Slips in these files must be seen by `archives`, the others by `calls` or `sessions`.
+ARCHIVE_FILES = ("archive", "refusal")
 
 # (file, what is wrong, right text, slipped text); the right text stands once in its file.
 SLIPS = [
@@ -490,6 +493,154 @@ SLIPS = [
     ("step_file", "the number of closed slots has 8 bits", "{light} {}{entries}\", record.slot)", "{light} {}{entries}\", record.slot as u8)"),
     ("step_file", "64 entries of a log shown", "log.iter().map(entry)", "log.iter().take(64).map(entry)"),
     ("step_file", "1,023 entries of a log shown", "log.iter().map(entry)", "log.iter().take(1023).map(entry)"),
+    # logs for the archive: limits and refusals
+    ("archive", "1,024 entries are too many", "MOST_ENTRIES: usize = 1024", "MOST_ENTRIES: usize = 1023"),
+    ("archive", "1,025 entries", "MOST_ENTRIES: usize = 1024", "MOST_ENTRIES: usize = 1025"),
+    ("archive", "64 entries at most", "MOST_ENTRIES: usize = 1024", "MOST_ENTRIES: usize = 64"),
+    ("archive", "1 for no entries", "if count > MOST_ENTRIES {", "if !(1..=MOST_ENTRIES).contains(&count) {"),
+    ("archive", "any entries", "if count > MOST_ENTRIES {", "if count > usize::MAX / PLANES {"),
+    ("archive", "8,192 bytes are too many", "MOST_STORED: usize = 8192", "MOST_STORED: usize = 8191"),
+    ("archive", "8,193 bytes get 24", "MOST_STORED: usize = 8192", "MOST_STORED: usize = 8193"),
+    ("archive", "8,184 bytes at most", "MOST_STORED: usize = 8192", "MOST_STORED: usize = 8184"),
+    ("archive", "8,200 bytes", "MOST_STORED: usize = 8192", "MOST_STORED: usize = 8200"),
+    ("archive", "1,024 bytes at most", "MOST_STORED: usize = 8192", "MOST_STORED: usize = MOST_ENTRIES"),
+    ("archive", "1 for no bytes", "if stored.len() > MOST_STORED {", "if !(1..=MOST_STORED).contains(&stored.len()) {"),
+    ("archive", "24 for no bytes", "if !stored.len().is_multiple_of(PLANES) {",
+     "if stored.is_empty() || !stored.len().is_multiple_of(PLANES) {"),
+    ("archive", "the limit by whole eights", "if stored.len() > MOST_STORED {", "if stored.len() / PLANES > MOST_ENTRIES {"),
+    ("archive", "an output of more than 8,192 bytes gets 1", "if count > MOST_ENTRIES {",
+     "if count > MOST_ENTRIES || stored.len() > MOST_STORED {"),
+    ("archive", "an output of more than 1,024 entries gets 1", "if stored.len() > MOST_STORED {",
+     "if stored.len() > MOST_STORED || entries.len() > MOST_ENTRIES {"),
+    ("archive", "an output that is no multiple of 8 is odd", "    if stored.len() < PLANES * count {",
+     "    if !stored.len().is_multiple_of(PLANES) {\n        return Err(Refusal::OddLength);\n    }\n"
+     "    if stored.len() < PLANES * count {"),
+    ("archive", "an odd length is one that is not even", "is_multiple_of(PLANES)", "is_multiple_of(2)"),
+    ("archive", "an odd length by 4", "is_multiple_of(PLANES)", "is_multiple_of(PLANES / 2)"),
+    ("archive", "an odd length by 16", "is_multiple_of(PLANES)", "is_multiple_of(2 * PLANES)"),
+    ("archive", "no length is odd", "is_multiple_of(PLANES)", "is_multiple_of(1)"),
+    ("archive", "fewer than 8 bytes are not odd", "if !stored.len().is_multiple_of(PLANES) {",
+     "if stored.len() > PLANES && !stored.len().is_multiple_of(PLANES) {"),
+    ("archive", "an odd length is a short table", "Err(Refusal::OddLength)", "Err(Refusal::ShortTable)"),
+    ("archive", "an odd length is a bad plan", "Err(Refusal::OddLength)", "Err(Refusal::BadPlan)"),
+    ("refusal", "an odd length for the archive is 25", "    OddLength,", "    OddLength = 25,"),
+    ("refusal", "an odd length for the archive is 23", "    TooFewLit,\n    OddLength,", "    OddLength,\n    TooFewLit,"),
+    ("archive", "2 before 1 for entries", "    if count > MOST_ENTRIES {",
+     "    if stored.len() < PLANES * entries.len() {\n        return Err(Refusal::ShortTable);\n    }\n    if count > MOST_ENTRIES {"),
+    ("archive", "2 before 1 for bytes", "    if stored.len() > MOST_STORED {",
+     "    if entries.len() < stored.len() / PLANES {\n        return Err(Refusal::ShortTable);\n    }\n    if stored.len() > MOST_STORED {"),
+    ("archive", "2 before 1 for whole eights of bytes", "    if stored.len() > MOST_STORED {",
+     "    if stored.len().is_multiple_of(8) && entries.len() < stored.len() / PLANES {\n        return Err(Refusal::ShortTable);\n    }\n"
+     "    if stored.len() > MOST_STORED {"),
+    ("archive", "24 before 1", "    if stored.len() > MOST_STORED {",
+     "    if stored.len() % PLANES != 0 {\n        return Err(Refusal::OddLength);\n    }\n    if stored.len() > MOST_STORED {"),
+    ("archive", "24 before 1 where there is room", "    if stored.len() > MOST_STORED {",
+     "    if stored.len() % PLANES != 0 && entries.len() > stored.len() / PLANES {\n        return Err(Refusal::OddLength);\n    }\n"
+     "    if stored.len() > MOST_STORED {"),
+    ("archive", "2 before 24", "    if !stored.len().is_multiple_of(PLANES) {",
+     "    if entries.len() < stored.len() / PLANES {\n        return Err(Refusal::ShortTable);\n    }\n"
+     "    if !stored.len().is_multiple_of(PLANES) {"),
+    ("archive", "2 before 24, counted up", "    if !stored.len().is_multiple_of(PLANES) {",
+     "    if entries.len() < stored.len().div_ceil(PLANES) {\n        return Err(Refusal::ShortTable);\n    }\n"
+     "    if !stored.len().is_multiple_of(PLANES) {"),
+    ("archive", "2 for a log that just fits", "stored.len() < PLANES * count", "stored.len() <= PLANES * count"),
+    ("archive", "2 for a log of no entries in no bytes", "stored.len() < PLANES * count", "stored.len() < PLANES * count.max(1)"),
+    ("archive", "2 for an output of more bytes", "stored.len() < PLANES * count", "stored.len() != PLANES * count"),
+    ("archive", "2 only below a byte for each entry", "stored.len() < PLANES * count", "stored.len() < count"),
+    ("archive", "2 by the whole entries that fit", "stored.len() < PLANES * count", "stored.len().div_ceil(PLANES) < count"),
+    ("archive", "a byte short, and the last one is left out",
+     "    if stored.len() < PLANES * count {\n        return Err(Refusal::ShortTable);\n    }\n    for plane in 0..PLANES {\n"
+     "        let bytes = &mut stored[plane * count..][..count];\n        for (byte, entry) in bytes.iter_mut().zip(entries) {",
+     "    if stored.len() + 1 < PLANES * count {\n        return Err(Refusal::ShortTable);\n    }\n    for plane in 0..PLANES {\n"
+     "        for (byte, entry) in stored.iter_mut().skip(plane * count).zip(entries) {"),
+    ("archive", "no 2 for entries: planes as far as they fit",
+     "    if stored.len() < PLANES * count {\n        return Err(Refusal::ShortTable);\n    }\n    for plane in 0..PLANES {\n"
+     "        let bytes = &mut stored[plane * count..][..count];\n        for (byte, entry) in bytes.iter_mut().zip(entries) {",
+     "    for plane in 0..PLANES {\n        for (byte, entry) in stored.iter_mut().skip(plane * count).zip(entries) {"),
+    ("archive", "2 for entries that just fit", "entries.len() < count", "entries.len() <= count"),
+    ("archive", "2 for an output of more entries", "entries.len() < count", "entries.len() != count"),
+    ("archive", "2 below an entry for each byte", "entries.len() < count", "entries.len() < stored.len()"),
+    ("archive", "an entry short, and the last one is left out",
+     "    if entries.len() < count {\n        return Err(Refusal::ShortTable);\n    }\n    for (place, entry) in entries[..count].iter_mut()",
+     "    if entries.len() + 1 < count {\n        return Err(Refusal::ShortTable);\n    }\n"
+     "    for (place, entry) in entries.iter_mut().take(count)"),
+    ("archive", "no 2 for bytes: entries as far as they fit",
+     "    if entries.len() < count {\n        return Err(Refusal::ShortTable);\n    }\n    for (place, entry) in entries[..count].iter_mut()",
+     "    for (place, entry) in entries.iter_mut().take(count)"),
+    # logs for the archive: what a refusal and what lies behind the result is left as
+    ("archive", "an output that is too short is cleared", "    if stored.len() < PLANES * count {\n",
+     "    if stored.len() < PLANES * count {\n        stored.fill(0);\n"),
+    ("archive", "a first plane is written before 2", "    if stored.len() < PLANES * count {\n",
+     "    if stored.len() < PLANES * count {\n        stored.iter_mut().zip(entries).for_each(|(byte, entry)| *byte = (entry >> 56) as u8);\n"),
+    ("archive", "a byte is written before 1", "    if count > MOST_ENTRIES {\n",
+     "    if count > MOST_ENTRIES {\n        stored.iter_mut().take(1).for_each(|byte| *byte = 0);\n"),
+    ("archive", "entries that are too few are cleared", "    if entries.len() < count {\n",
+     "    if entries.len() < count {\n        entries.fill(0);\n"),
+    ("archive", "an entry is written before 24", "    if !stored.len().is_multiple_of(PLANES) {\n",
+     "    if !stored.len().is_multiple_of(PLANES) {\n        entries.iter_mut().take(1).for_each(|entry| *entry = 0);\n"),
+    ("archive", "an entry is written before 1", "    if stored.len() > MOST_STORED {\n",
+     "    if stored.len() > MOST_STORED {\n        entries.iter_mut().take(1).for_each(|entry| *entry = 0);\n"),
+    ("archive", "bytes behind the planes are cleared", "    for plane in 0..PLANES {\n",
+     "    stored[PLANES * entries.len()..].fill(0);\n    for plane in 0..PLANES {\n"),
+    ("archive", "a byte behind the planes is cleared", "    for plane in 0..PLANES {\n",
+     "    stored[PLANES * entries.len()..].iter_mut().take(1).for_each(|byte| *byte = 0);\n    for plane in 0..PLANES {\n"),
+    ("archive", "entries behind the log are cleared", "    for (place, entry) in entries[..count]",
+     "    entries[count..].fill(0);\n    for (place, entry) in entries[..count]"),
+    ("archive", "an entry behind the log is cleared", "    for (place, entry) in entries[..count]",
+     "    entries[count..].iter_mut().take(1).for_each(|entry| *entry = 0);\n    for (place, entry) in entries[..count]"),
+    # logs for the archive: planes
+    ("archive", "the lowest byte first", "entry.to_be_bytes()", "entry.to_le_bytes()"),
+    ("archive", "planes from the last to the first", "&mut stored[plane * count..]", "&mut stored[(PLANES - 1 - plane) * count..]"),
+    ("archive", "one entry behind the other",
+     "        let bytes = &mut stored[plane * count..][..count];\n        for (byte, entry) in bytes.iter_mut().zip(entries) {",
+     "        for (byte, entry) in stored.iter_mut().skip(plane).step_by(PLANES).zip(entries) {"),
+    ("archive", "the last entry first in each plane", "bytes.iter_mut().zip(entries)", "bytes.iter_mut().rev().zip(entries)"),
+    ("archive", "the last plane left out", "for plane in 0..PLANES {", "for plane in 0..PLANES - 1 {"),
+    ("archive", "the first plane left out", "for plane in 0..PLANES {", "for plane in 1..PLANES {"),
+    ("archive", "planes one byte too far apart", "        let bytes = &mut stored[plane * count..]",
+     "        let apart = count + usize::from(count < stored.len() / PLANES);\n        let bytes = &mut stored[plane * apart..]"),
+    ("archive", "planes one byte too close", "&mut stored[plane * count..][..count]", "&mut stored[plane * count.saturating_sub(1)..][..count]"),
+    ("archive", "planes as far apart as the output lets them", "        let bytes = &mut stored[plane * count..]",
+     "        let apart = stored.len() / PLANES;\n        let bytes = &mut stored[plane * apart..]"),
+    ("archive", "the last entry of each plane left out", "[plane * count..][..count]", "[plane * count..][..count.saturating_sub(1)]"),
+    ("archive", "two planes changed about", "entry.to_be_bytes()[plane]", "entry.to_be_bytes()[if plane / 2 == 2 { 9 - plane } else { plane }]"),
+    ("archive", "the fifth plane has the fourth's bytes", "entry.to_be_bytes()[plane]", "entry.to_be_bytes()[if plane == 4 { 3 } else { plane }]"),
+    ("archive", "the halves of entries changed about", "entry.to_be_bytes()[plane]", "entry.to_be_bytes()[plane ^ 4]"),
+    ("archive", "entries of 32 bits", "entry.to_be_bytes()[plane]", "(entry & 0xffff_ffff).to_be_bytes()[plane]"),
+    ("archive", "an urgent tag stored without its bit", "entry.to_be_bytes()[plane]", "(entry << 1 >> 1).to_be_bytes()[plane]"),
+    ("archive", "planes shifted by seven bits", "entry.to_be_bytes()[plane]", "(entry >> (7 * (7 - plane))) as u8"),
+    ("archive", "bytes added to what is there", "*byte = entry", "*byte |= entry"),
+    ("archive", "no bytes of an empty slot written", "zip(entries) {", "zip(entries).filter(|(_, entry)| **entry != 0) {"),
+    ("archive", "no entries above the 255th", "let count = entries.len();",
+     "let count = entries.len();\n    let entries = &entries[..count.min(255)];"),
+    ("archive", "the 1,024th entry left out", "zip(entries) {", "zip(entries).take(1023) {"),
+    # logs for the archive: entries
+    ("archive", "the lowest byte read first", "u64::from_be_bytes(", "u64::from_le_bytes("),
+    ("archive", "planes read from the last to the first", "stored[plane * count + place]", "stored[(PLANES - 1 - plane) * count + place]"),
+    ("archive", "one entry read behind the other", "stored[plane * count + place]", "stored[place * PLANES + plane]"),
+    ("archive", "the last entry read first", "stored[plane * count + place]", "stored[plane * count + count - 1 - place]"),
+    ("archive", "the byte before is read", "stored[plane * count + place]", "stored[(plane * count + place).saturating_sub(1)]"),
+    ("archive", "the last plane not read", "|plane| stored[plane * count + place])",
+     "|plane| if plane == 7 { 0 } else { stored[plane * count + place] })"),
+    ("archive", "the first plane not read", "|plane| stored[plane * count + place])",
+     "|plane| if plane == 0 { 0 } else { stored[plane * count + place] })"),
+    ("archive", "two planes read changed about", "stored[plane * count + place]",
+     "stored[if plane / 2 == 1 { 5 - plane } else { plane } * count + place]"),
+    ("archive", "bytes read with a sign", "u64::from_be_bytes(array::from_fn(|plane| stored[plane * count + place]))",
+     "(0..PLANES).fold(0, |entry: u64, plane| entry << 8 | stored[plane * count + place] as i8 as u64)"),
+    ("archive", "an urgent tag read without its bit", "*entry = u64::from_be_bytes(array::from_fn(|plane| stored[plane * count + place]));",
+     "*entry = u64::from_be_bytes(array::from_fn(|plane| stored[plane * count + place])) << 1 >> 1;"),
+    ("archive", "bytes read at a seventh bit", "u64::from_be_bytes(array::from_fn(|plane| stored[plane * count + place]))",
+     "(0..PLANES).fold(0, |entry: u64, plane| entry << 7 | u64::from(stored[plane * count + place]))"),
+    ("archive", "entries added to what is there", "*entry = u64", "*entry |= u64"),
+    ("archive", "planes read by the length of the output",
+     "    for (place, entry) in entries[..count].iter_mut().enumerate() {\n"
+     "        *entry = u64::from_be_bytes(array::from_fn(|plane| stored[plane * count + place]));",
+     "    let apart = entries.len();\n    for (place, entry) in entries[..count].iter_mut().enumerate() {\n"
+     "        *entry = u64::from_be_bytes(array::from_fn(|plane| stored[(plane * apart + place) % stored.len()]));"),
+    ("archive", "the last entry not read", "entries[..count].iter_mut()", "entries[..count.saturating_sub(1)].iter_mut()"),
+    ("archive", "no entries above the 255th read", "entries[..count].iter_mut()", "entries[..count.min(255)].iter_mut()"),
+    ("archive", "the 1,024th entry not read", "entries[..count].iter_mut()", "entries[..count.min(1023)].iter_mut()"),
     # step files
     ("step_file", "a byte more is taken", "REHEARSAL_BYTES: usize = 65_536", "REHEARSAL_BYTES: usize = 65_537"),
     ("step_file", "a byte less is taken", "REHEARSAL_BYTES: usize = 65_536", "REHEARSAL_BYTES: usize = 65_535"),
@@ -515,13 +666,19 @@ def options():
     parser.add_argument("--seed", default="1")
     parser.add_argument("--calls", default="1000000")
     parser.add_argument("--sessions", default="2000")
-    parser.add_argument("--only", default="", help="only slips whose description has this text")
+    parser.add_argument("--archives", default="1000000")
+    parser.add_argument("--only", default="", help="only slips whose file or description has this text")
     return parser.parse_args()
 
 
-def build(copy, lib):
+def programs(slip):
+    return ["archives"] if slip[0] in ARCHIVE_FILES else ["calls", "sessions"]
+
+
+def build(copy, lib, names):
     command = ["cargo", "build", "--quiet", "--release", "--offline", "--features", "library"]
-    command += ["--bin", "calls", "--bin", "sessions"]
+    for name in names:
+        command += ["--bin", name]
     environment = dict(os.environ, RUSHHOPPER_LIB=os.path.abspath(lib), RUSTFLAGS="-Awarnings")
     subprocess.run(command, cwd=copy, env=environment, check=True)
 
@@ -535,12 +692,12 @@ def sees(command):
     return None if done.returncode in (0, 1) else "stopped: " + " ".join(done.stderr.split())
 
 
-def verdict(copy, arguments):
-    release = copy / "target" / "release"
-    calls = [release / "calls", "--seed", arguments.seed, "--runs", arguments.calls]
-    sessions = [release / "sessions", "--program", os.path.abspath(arguments.program)]
-    sessions += ["--seed", arguments.seed, "--runs", arguments.sessions]
-    for name, command in (("calls", calls), ("sessions", sessions)):
+def verdict(copy, arguments, names):
+    build(copy, arguments.lib, names)
+    for name in names:
+        command = [copy / "target" / "release" / name, "--seed", arguments.seed, "--runs", getattr(arguments, name)]
+        if name == "sessions":
+            command += ["--program", os.path.abspath(arguments.program)]
         seen = sees(command)
         if seen:
             return f"{name}: {seen[:90]}"
@@ -555,21 +712,19 @@ def try_slip(copy, slip, arguments):
         sys.exit(f"the text stands {text.count(right)} times in {name}.rs:\n{right}")
     source.write_text(text.replace(right, slipped))
     try:
-        build(copy, arguments.lib)
-        return verdict(copy, arguments)
+        return verdict(copy, arguments, programs(slip))
     finally:
         source.write_text(text)
 
 
 def main():
     arguments = options()
-    slips = [slip for slip in SLIPS if arguments.only in slip[1]]
+    slips = [slip for slip in SLIPS if arguments.only in slip[0] or arguments.only in slip[1]]
     unseen = 0
     with tempfile.TemporaryDirectory() as folder:
         copy = pathlib.Path(folder) / "separate"
         shutil.copytree(PACKAGE, copy, ignore=shutil.ignore_patterns("target"))
-        build(copy, arguments.lib)
-        if verdict(copy, arguments):
+        if verdict(copy, arguments, sorted({name for slip in slips for name in programs(slip)})):
             sys.exit("the copy differs before any slip")
         for slip in slips:
             seen = try_slip(copy, slip, arguments)
