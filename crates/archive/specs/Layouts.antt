@@ -23,9 +23,6 @@ eight = length-grown upto-grows entry-bytes
 pub length-planes : (entries : List ℕ) → length (planes entries) ≡ entry-bytes * length entries
 length-planes entries = length-listed byte (upto entry-bytes) entries ∙ rw eight
 
-pub length-log-bytes : (entries : List ℕ) → length (log-bytes entries) ≡ length entries * entry-bytes
-length-log-bytes entries = length-listed (λ entry p. byte p entry) entries (upto entry-bytes) ∙ rw eight
-
 pub length-entries : (stored : List ℕ) → length (entries-of stored) ≡ entry-count stored
 length-entries stored = length-grown (map-grows (entry-at (entry-count stored) stored)) (entry-count stored)
 

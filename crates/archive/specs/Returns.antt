@@ -1,17 +1,18 @@
 -- What Point 7 says of the two calls, as theorems about their definitions.
-use Prim.Native.Nat.{ℕ, _+_, _-_, _*_, _%_, _^_, _≤_}
+use Prim.Native.Nat.{ℕ, _*_, _%_, _^_, _≤_}
 use mathlib.Core.Bool.{not}
-use mathlib.Core.Path.{_≡_, refl, ap, _∙_}
+use mathlib.Core.Path.{_≡_, refl, ap}
 use mathlib.Core.List.{List}
 use native.Mathlib.Omega.{arith}
-use lib.ListN.{length, getD, take, drop, length-append, length-drop}
-use lib.Seq.{take-at, getD-append-add, getD-drop}
+use lib.ListN.{length, getD, take, drop}
+use lib.Seq.{take-at}
 use borrow.Author.Tests.{le-ltb, ltb-false, eq-eqb, eqb-true, not-false}
 use Rattle.model.specs.declared.Answer.the-variants.{Refused, Done}
 use Rattle.model.specs.declared.Refusal.{Refusal}
 use Rattle.model.specs.TurnedAway.{Ground}
 use Rattle.model.specs.Scripts.{Played, ended}
 use Rattle.model.proofs.Cases.{Unmet, unless-ind, none-met, never}
+use Rattle.model.proofs.Fronts.{rest-stays, length-stays}
 use Rattle.archive.specs.Planes.{entry-bytes, planes, entry-count, entries-of}
 use Rattle.archive.specs.Calls.{most-entries, most-stored, planes-refusals, entries-refusals, over, rearranged, to-planes, to-entries}
 use Rattle.archive.specs.Layouts.{Below, length-planes, length-entries, entries-again, planes-again}
@@ -19,16 +20,13 @@ use Rattle.archive.specs.Layouts.{Below, length-planes, length-entries, 
 module _ (result output : List ℕ) where
   -- "Output past the result is not touched."
   pub rest-untouched : (k : ℕ) → length result ≤ k → getD (over result output) k 0 ≡ getD output k 0
-  rest-untouched k h =
-      let n = length result in
-      let past : n + (k - n) ≡ k = omega arith in
-      rw past at (getD-append-add result (drop n output) (k - n) 0 ∙ getD-drop n output (k - n) 0)
+  rest-untouched k h = rest-stays result output refl k h
 
   pub front : {n : ℕ} → length result ≡ n → take n (over result output) ≡ result
   front {n} e = take-at result (drop (length result) output) n e
 
   pub length-over : length result ≤ length output → length (over result output) ≡ length output
-  length-over h = rw (length-append, length-drop) (omega arith)
+  length-over h = length-stays result output refl h
 
 -- ---- both calls, by their refusals
 

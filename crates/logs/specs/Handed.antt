@@ -1,6 +1,6 @@
 -- Where submitted tags come from: no call but a submit hands one in, so that each was handed in by a submit of the list.
 use Prim.Native.Nat.{ℕ, zero, suc}
-use mathlib.Core.Bool.{Bool, true, false, _||_}
+use mathlib.Core.Bool.{Bool, true, false, _||_, or-comm}
 use mathlib.Core.List.{List, [], _∷_, _++_}
 use mathlib.Core.Path.{_≡_, refl, sym, _∙_}
 use Rattle.model.specs.Tests.{some}
@@ -8,7 +8,7 @@ use Rattle.model.specs.Rack.{Rack}
 use Rattle.model.specs.Conductor.{for-each, does, hear, hear-steps, round-steps, slot-steps, conduct-refusals, relay-steps, conduct-steps}
 use Rattle.model.specs.Scripts.{Script, done, take, look, Played, play, goes-on, running, run-on, take-all, conducting, conduct, script}
 use Rattle.model.specs.History.{Taken, History, beginning, Lent, take-step, on-history, follow, run, after, submits, submitted}
-use Rattle.model.proofs.Cases.{clash, or-left, or-right, if-ind, unless-ind}
+use Rattle.model.proofs.Cases.{clash, or-left, if-ind, unless-ind}
 use Rattle.tables.specs.Types.{Numbers, ReplicaId, Effect, Act, Relay, Begin, Advance, Step, Call, Open, Single, RunOn, Conduct}
 
 -- a call hands in a tag, and one of a list does
@@ -22,10 +22,6 @@ abbrev pub handed-in : ℕ → List Lent → Bool
 handed-in x = some (λ (l : Lent). hands x (l .call))
 
 -- ---- tests
-
-other-way : (a b : Bool) → (a || b) ≡ true → (b || a) ≡ true
-other-way true b e = or-right b true refl
-other-way false b e = or-left b false e
 
 -- what the next one tells is told of what is behind it
 passed-on : (a b c d : Bool) → (d ≡ true → (a || b) ≡ true) → (d || c) ≡ true → (a || (b || c)) ≡ true
@@ -107,7 +103,7 @@ module _ (x : ℕ) where
     call-hands strip (Open q) h e = or-left _ _ e
     call-hands strip (Single a) h e =
         if-ind (λ (l : List Taken). some (λ t. submits x (t .step .act)) l ≡ true → (submitted h x || submits x (a .act)) ≡ true) _
-        (λ _. other-way (submits x (a .act)) (submitted h x)) (λ _. or-left _ _) e
+        (λ _ e. or-comm (submitted h x) (submits x (a .act)) ∙ e) (λ _. or-left _ _) e
     call-hands strip (RunOn c) h e = or-left _ _ (sym (quiet-play strip (run-on N c) h (running-quiet c _ 0)) ∙ e)
     call-hands strip Conduct h e = or-left _ _ (sym (quiet-play strip (conduct N) h (conduct-quiet N)) ∙ e)
 
