@@ -34,11 +34,11 @@ use Rattle.tables.specs.Bounds.{bounds}
 use Rattle.tables.specs.View.{view}
 use Rattle.tables.specs.Write.{word-number}
 use Rattle.tables.specs.Checks.{spoiled, record-refusals}
-use Rattle.tables.specs.Sound.{Sound, sound, record-there, own-view, in-state, seen-stands, seen-low, noticed-low}
+use Rattle.tables.specs.Sound.{Sound, sound, record-there, own-counts, own-view, in-state, seen-stands, seen-low, noticed-low}
 use Rattle.tables.specs.Calls.{lent-refusals, judge}
 use Rattle.messages.specs.Reach.{Fitting}
 use Rattle.known.specs.Room.{Storable}
-use Rattle.effects.specs.Doable.{RecordThere, Ready, Doable}
+use Rattle.effects.specs.Doable.{RecordThere, Ready, Closable, Doable}
 
 -- the number of a state or a vote fits its byte
 say-fits : (b : Bool) → word-number (Say b) ≤ 3
@@ -57,6 +57,10 @@ module _ (N : Numbers) (t : Tables) where
     pub ready : Ready N c t
     ready = let l = fine .long in
         record { bounds = fine .within; who = here; known = fine .known; words = l .words; orders = l .orders; ballots = l .ballots }
+
+    -- its slot can be closed
+    closes : record-at (t .words) c .slot < slots → Ready N c t × Closable N (record-at (t .words) c)
+    closes l = (ready, record { low = l; counts = own-counts N fine here })
 
     -- what a send stores has its places
     sends : (so : Sort) (p : ℕ) (w : Word) → record-at (t .words) c .slot < slots → phase-in N so p ≡ true → Fitting so w → Doable N c (Send so p w) t
@@ -82,20 +86,20 @@ module _ (N : Numbers) (t : Tables) where
   by-rule fine {c} here (by-begin idle open-slot some) =
       sends fine c here Proposals 0 Unsure (subst (λ (k : Replica). k .closed < slots) (own-view N t here) open-slot) phase-zero tt
   by-rule fine {c} here (by-hear so hd hs hp sent free) = (ready fine c here, record { sender = hd; slot = hs; phase = hp })
-  by-rule fine {c} here (by-notice heard) = (ready fine c here, noticed-low N t here heard)
+  by-rule fine {c} here (by-notice heard) = closes fine c here (noticed-low N t here heard)
   by-rule fine {c} here (by-exchange was enough) = let b = not (eqb (majority-tag N (view N t .at c)) 0) in
       sends fine c here States 1 (Say b) (seen-low N fine here Exchange refl was) (state-in N 1 (omega arith) (fine .within .phases-some)) (say-fits b)
   by-rule fine {c} here (by-state was enough) = let k = view N t .at c in
       sends fine c here Votes (k .phase) (vote-of N k) (seen-low N fine here State refl was)
       (subst (λ (k : Replica). phase-in N Votes (k .phase) ≡ true) (sym (own-view N t here))
       (as-vote N _ (in-state N _ _ (seen-stands N fine here State was)))) (vote-fits N k)
-  by-rule fine {c} here (by-outcome-0 v o) = (ready fine c here, seen-low N fine here Vote refl (v .in-round))
-  by-rule fine {c} here (by-outcome-1 v o some) = (ready fine c here, seen-low N fine here Vote refl (v .in-round))
+  by-rule fine {c} here (by-outcome-0 v o) = closes fine c here (seen-low N fine here Vote refl (v .in-round))
+  by-rule fine {c} here (by-outcome-1 v o some) = closes fine c here (seen-low N fine here Vote refl (v .in-round))
   by-rule fine {c} here (by-seek v o none) = ready fine c here
   by-rule fine {c} here (by-next-phase flip v o more) = let k = view N t .at c in let b = next-state N flip k in
       sends fine c here States (suc (k .phase)) (Say b) (seen-low N fine here Vote refl (v .in-round)) (state-in N (suc (k .phase)) (omega arith) (omega arith))
       (say-fits b)
-  by-rule fine {c} here (by-find was some) = (ready fine c here, seen-low N fine here Find refl was)
+  by-rule fine {c} here (by-find was some) = closes fine c here (seen-low N fine here Find refl was)
   by-rule fine {c} here by-crash = record { few = let b = fine .within .few in omega arith; there = record-there N fine here }
 
   -- a crash whose refusals are not met has its record

@@ -37,4 +37,4 @@ pub record Admitted (N : Numbers) (c d strip : ℕ) (t : Tables) : Type 0 where
 
 -- the tag of a proposal that is sent, 0 of anything else
 abbrev pub sent-tag : Effect → ℕ
-sent-tag = elim [ Refuse why ↦ 0 | Hold x ↦ 0 | Send so p w ↦ tag-of w | Close x ↦ 0 | Seek ↦ 0 | Receive so s p d w ↦ 0 | Halt ↦ 0 ]
+sent-tag = elim [ Refuse why ↦ 0 | Hold x ↦ 0 | Send so p w ↦ tag-of w | Close x own ↦ 0 | Seek ↦ 0 | Receive so s p d w ↦ 0 | Halt ↦ 0 ]

@@ -18,7 +18,7 @@ pub fn is_accepted(effect: Effect) -> bool
             phase: _,
             word: _,
         } => true,
-        Effect::Close(_) => true,
+        Effect::Close { entry: _, own: _ } => true,
         Effect::Seek => true,
         Effect::Receive {
             sort: _,
@@ -42,7 +42,7 @@ pub fn answer_of(effect: Effect) -> Answer
             phase: _,
             word: _,
         } => Answer::Done,
-        Effect::Close(_) => Answer::Done,
+        Effect::Close { entry: _, own: _ } => Answer::Done,
         Effect::Seek => Answer::Done,
         Effect::Receive {
             sort: _,
@@ -67,7 +67,7 @@ pub fn sent_tag(effect: Effect) -> u64
             phase: _,
             word,
         } => tag_of(word),
-        Effect::Close(_) => 0,
+        Effect::Close { entry: _, own: _ } => 0,
         Effect::Seek => 0,
         Effect::Receive {
             sort: _,

@@ -68,9 +68,9 @@ module _ (N : Numbers) (c s : ℕ) (ws os bs : List ℕ) where
 -- ---- what is heeded
 
 module _ (otherwise : Rule) {w u : Word} (is : w ≡ u) where
-  pub heeded : {x : ℕ} → is-sent w ≡ true → x ≡ tag-of w → Close x ≡ settle (heed u otherwise)
+  pub heeded : {x : ℕ} → is-sent w ≡ true → x ≡ tag-of w → Close x false ≡ settle (heed u otherwise)
   unfolding heed unless
-  heeded e q = ap Close (q ∙ ap tag-of is) ∙ sym (ap settle (if-true _ _ (ap is-sent (sym is) ∙ e)))
+  heeded e q = ap (λ (x : ℕ). Close x false) (q ∙ ap tag-of is) ∙ sym (ap settle (if-true _ _ (ap is-sent (sym is) ∙ e)))
 
   pub not-heeded : {r : Effect} → is-sent w ≡ false → r ≡ settle otherwise → r ≡ settle (heed u otherwise)
   unfolding heed

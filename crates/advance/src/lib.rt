@@ -174,7 +174,10 @@ fn close_or_seek(
     if tag == 0 {
         return Effect::Seek;
     }
-    Effect::Close(tag)
+    Effect::Close {
+        entry: tag,
+        own: true,
+    }
 }
 
 // No outcome: 15, or the state for the next phase.
@@ -234,7 +237,10 @@ fn vote_rule(
             if v {
                 return close_or_seek(numbers, who, slot, phase, words, orders, ballots);
             }
-            Effect::Close(0)
+            Effect::Close {
+                entry: 0,
+                own: true,
+            }
         }
         Outcome::Undecided => go_on(numbers, slot, phase, count.zeros, count.ones, strip),
     }
@@ -257,7 +263,10 @@ fn find_rule(
     if tag == 0 {
         return Effect::Refuse(Refusal::TooFewHeard);
     }
-    Effect::Close(tag)
+    Effect::Close {
+        entry: tag,
+        own: true,
+    }
 }
 
 fn advance_rule(

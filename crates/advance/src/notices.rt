@@ -94,7 +94,10 @@ pub fn heed(
 {
     let word = noticed(numbers, who, slot, words, orders, ballots);
     if is_sent(word) {
-        return Effect::Close(tag_of(word));
+        return Effect::Close {
+            entry: tag_of(word),
+            own: false,
+        };
     }
     advance_rule(
         numbers,

@@ -19,7 +19,7 @@ ghost use Rattle.model.specs.Tests.{between};
 ghost use Rattle.model.specs.Limits.{most-replicas};
 ghost use Rattle.tables.specs.Layout.{mask-bits, known-in, record-end, record-at, record-stored};
 ghost use Rattle.model.specs.Rack.{round-in};
-ghost use Rattle.tables.specs.Checks.{spoiled, spoiled-at, any-spoiled};
+ghost use Rattle.tables.specs.Checks.{astray as astray-by, overcounted as overcounted-by, spoiled, spoiled-at, any-spoiled};
 
 // How many tags are known: none where not even that is there.
 pub fn known_in(words: &[u16]) -> u16
@@ -41,6 +41,8 @@ pub fn load(words: &[u16], c: usize) -> Record
         round: words[at + 1],
         slot: words[at + 2],
         phase: words[at + 3],
+        empty: words[at + 4],
+        fast: words[at + 5],
     }
 }
 
@@ -53,6 +55,8 @@ pub fn store(words: &mut [u16], c: usize, k: Record)
     words[at + 1] = k.round;
     words[at + 2] = k.slot;
     words[at + 3] = k.phase;
+    words[at + 4] = k.empty;
+    words[at + 5] = k.fast;
 }
 
 pub fn round_in(x: u16) -> Round
@@ -84,8 +88,8 @@ fn phase_outside(numbers: Numbers, phase: usize) -> bool
 }
 
 // By the slot first: most records are of a slot that the run has.
-pub fn record_spoiled(numbers: Numbers, k: Record) -> bool
-    ensures { λ r. ⌜ r ≡ spoiled numbers k ⌝ }
+fn astray(numbers: Numbers, k: Record) -> bool
+    ensures { λ r. ⌜ r ≡ astray-by numbers k ⌝ }
 {
     let slot = k.slot as usize;
     let phase = k.phase as usize;
@@ -103,6 +107,25 @@ pub fn record_spoiled(numbers: Numbers, k: Record) -> bool
         return k.round != FIND;
     }
     phase_outside(numbers, phase)
+}
+
+// "either count exceeds the closed slots"
+fn overcounted(k: Record) -> bool
+    ensures { λ r. ⌜ r ≡ overcounted-by k ⌝ }
+{
+    if k.slot < k.empty {
+        return true;
+    }
+    k.slot < k.fast
+}
+
+pub fn record_spoiled(numbers: Numbers, k: Record) -> bool
+    ensures { λ r. ⌜ r ≡ spoiled numbers k ⌝ }
+{
+    if astray(numbers, k) {
+        return true;
+    }
+    overcounted(k)
 }
 
 fn spoiled_record(numbers: Numbers, words: &[u16], c: usize) -> bool

@@ -45,7 +45,7 @@ module _ (r : Rack) (c : ℕ) (all : HeldKnown r) where
       more : (y : ℕ) → Known (r .known) y → Known (adding x (r .known)) y
       more y (ne, l) = (ne, adding-keeps x (r .known) y l)
   held-known (Send so p w) some = same-held _ refl
-  held-known (Close x) some = same-held _ refl
+  held-known (Close x own) some = same-held _ refl
   held-known Seek some = same-held _ refl
   held-known (Receive so s p d w) some = same-held _ refl
   held-known Halt some = same-held _ refl

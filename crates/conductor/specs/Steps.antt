@@ -158,7 +158,7 @@ module _ (N : Numbers) (r : Rack) (strip : List ℕ) (level : Level N r strip) w
           rw (now .phase) (heard-enough Votes (omega arith) now),
           (ap (λ (o : Outcome). same-outcome Undecided o && leb phases (k .phase)) decided, tt),
         )
-        ∙ ap (conclude N _ k) decided ∙ ap (λ (y : ℕ). if (eqb y 0) Seek (Close y)) (tag-found Votes (omega arith) now)
+        ∙ ap (conclude N _ k) decided ∙ ap (λ (y : ℕ). if (eqb y 0) Seek (Close y true)) (tag-found Votes (omega arith) now)
         ∙ if-false _ _ (ne-eqb x 0 (level .a-tag)))
         refl refl (rw (set-same c) (record {
           running = now .in-slot .running;

@@ -2,7 +2,7 @@
 use Prim.Native.Nat.{ℕ}
 use native.Mathlib.Omega.{arith}
 use mathlib.Core.List.{List}
-use mathlib.Core.Bool.{true, false}
+use mathlib.Core.Bool.{Bool, true, false}
 use mathlib.Core.Path.{_≡_, refl, sym, _∙_, ap, subst}
 use lib.ListN.{getD, set}
 use Rattle.model.specs.declared.Numbers.{Numbers}
@@ -14,7 +14,7 @@ use Rattle.model.specs.declared.Effect.{Effect}
 use Rattle.model.specs.declared.Effect.the-variants.{Refuse, Hold, Close, Seek, Receive, Halt}
 use Rattle.model.proofs.Cases.{clash}
 use Rattle.tables.specs.Layout.{Tables, with-bit, known-in, record-at, record-stored, heard-cell}
-use Rattle.tables.specs.Write.{write, entered, halted, orders-held, words-held}
+use Rattle.tables.specs.Write.{write, moved, with-change, halted, orders-held, words-held}
 use Rattle.tables.specs.Calls.{tables}
 use Rattle.messages.specs.Reach.{Reach}
 use Rattle.known.specs.Room.{Room, Acting}
@@ -61,11 +61,11 @@ module _ (N : Numbers) (c : ℕ) where
     unfolding write
     held x q = λ i. tables (q .0 i) (q .1 i) bs
 
-    pub closed : (x : ℕ) {ws′ os′ : List ℕ} → ((l : List ℕ) → Carried (Close x) (tables ws os l) (tables ws′ os′ l))
-        → Carried (Close x) T (tables ws′ os′ bs)
-    closed x q = q bs
+    pub closed : (x : ℕ) (own : Bool) {ws′ os′ : List ℕ} → ((l : List ℕ) → Carried (Close x own) (tables ws os l) (tables ws′ os′ l))
+        → Carried (Close x own) T (tables ws′ os′ bs)
+    closed x own q = q bs
 
-    pub sought : {ws′ : List ℕ} → ws′ ≡ entered ws c Find (record-at ws c .slot) (record-at ws c .phase) → Carried Seek T (tables ws′ os bs)
+    pub sought : {ws′ : List ℕ} → ws′ ≡ with-change ws c (moved Find (record-at ws c .slot) (record-at ws c .phase)) → Carried Seek T (tables ws′ os bs)
     unfolding write
     sought q = λ i. tables (q i) os bs
 

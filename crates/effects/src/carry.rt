@@ -31,8 +31,8 @@ pub fn carry_advance(
         Effect::Send { sort, phase, word } => {
             send(numbers, who, sort, phase, word, words, orders, ballots);
         }
-        Effect::Close(x) => {
-            close(numbers, who, x, words, orders);
+        Effect::Close { entry, own } => {
+            close(numbers, who, entry, own, words, orders);
         }
         Effect::Seek => {
             seek(who, words);

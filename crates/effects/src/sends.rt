@@ -1,6 +1,7 @@
 // What a send, a close and a find store. Each loads the acting record once.
 use crate::stand::enter;
 use crate::stand::log_entry;
+use crate::stand::shut;
 use cells::records::load;
 use messages::sending::send_message;
 use messages::sending::store_mark;
@@ -16,12 +17,12 @@ ghost use Rattle.model.specs.declared.Effect.the-variants.{Send, Close};
 ghost use Rattle.model.specs.Rack.{round-of};
 ghost use Rattle.tables.specs.Layout.{record-at};
 ghost use Rattle.tables.specs.Addresses.{Within};
-ghost use Rattle.tables.specs.Write.{entered, write};
+ghost use Rattle.tables.specs.Write.{moved, with-change, write};
 ghost use Rattle.tables.specs.Calls.{tables};
 ghost use Rattle.tables.specs.Lent.{moments};
 ghost use Rattle.known.specs.Room.{Acting};
 ghost use Rattle.messages.specs.Reach.{Reach, Fitting};
-ghost use Rattle.effects.specs.Doable.{RecordThere};
+ghost use Rattle.effects.specs.Doable.{RecordThere, Closable};
 
 fn round_of(sort: Sort) -> Round
     ensures { λ r. ⌜ r ≡ round-of sort ⌝ }
@@ -67,23 +68,23 @@ pub fn send(
 }
 
 // The entry, and its notice's mark; whatever stands in the ballots.
-pub fn close(numbers: Numbers, who: usize, x: u64, words: &mut [u16], orders: &mut [u64])
-    requires { ⌜ (Acting numbers who (now words) (now orders)) × (record-at (now words) who .slot < numbers .slots) ⌝ }
+pub fn close(numbers: Numbers, who: usize, x: u64, own: bool, words: &mut [u16], orders: &mut [u64])
+    requires { ⌜ (Acting numbers who (now words) (now orders)) × (Closable numbers (record-at (now words) who)) ⌝ }
     ensures { λ _. ⌜ ((bs : List ℕ) → tables (now (words .exit)) (now (orders .exit)) bs
-        ≡ write numbers who (Close x) (tables (now (words .entry)) (now (orders .entry)) bs)) ⌝ }
+        ≡ write numbers who (Close x own) (tables (now (words .entry)) (now (orders .entry)) bs)) ⌝ }
 {
     let k = load(words, who);
     let slot = k.slot as usize;
     log_entry(numbers, who, slot, x, orders);
     store_mark(numbers, who, Sort::Notices, slot, 0, words);
-    enter(who, k, Round::Idle, k.slot + 1, k.phase, words);
+    shut(who, k, x, own, words);
 }
 
 pub fn seek(who: usize, words: &mut [u16])
     requires { ⌜ RecordThere who (now words) ⌝ }
     ensures { λ _.
         let k = record-at (now (words .entry)) who in
-        ⌜ now (words .exit) ≡ entered (now (words .entry)) who Find (k .slot) (k .phase) ⌝ }
+        ⌜ now (words .exit) ≡ with-change (now (words .entry)) who (moved Find (k .slot) (k .phase)) ⌝ }
 {
     let k = load(words, who);
     enter(who, k, Round::Find, k.slot, k.phase, words);

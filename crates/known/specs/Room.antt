@@ -8,7 +8,7 @@ use lib.ListN.{length, getD, take}
 use Rattle.model.specs.declared.Numbers.{Numbers}
 use Rattle.model.specs.declared.Round.{Round}
 use Rattle.model.specs.Tests.{listed}
-use Rattle.model.specs.Rack.{Replica, silence}
+use Rattle.model.specs.Rack.{Replica, silence, no-counts}
 use Rattle.tables.specs.Layout.{known-in, words-need, orders-need}
 use Rattle.tables.specs.Bounds.{Bounds}
 use Rattle.tables.specs.View.{holds, log-in}
@@ -32,6 +32,7 @@ as-holder N c a s ws os = record {
   round = a;
   closed = s;
   phase = 0;
+  counts = no-counts;
   entry = log-in N os c;
   held = holds N (known-in ws) os ws c;
   inbox = silence;

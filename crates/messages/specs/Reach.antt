@@ -8,7 +8,7 @@ use Rattle.model.specs.declared.Round.the-variants.{Idle}
 use Rattle.model.specs.declared.Sort.{Sort}
 use Rattle.model.specs.declared.Sort.the-variants.{Proposals, States, Votes, Notices}
 use Rattle.model.specs.declared.Word.{Word}
-use Rattle.model.specs.Rack.{Messages, Replica}
+use Rattle.model.specs.Rack.{Messages, no-counts, Replica}
 use Rattle.tables.specs.Layout.{words-need, orders-need, ballots-need}
 use Rattle.tables.specs.Bounds.{Bounds}
 use Rattle.tables.specs.Write.{word-number}
@@ -28,4 +28,4 @@ Fitting Notices w = Unit {0}
 
 -- a replica as far as the rules of an advance and a hear read it: its slot and phase, and what it has heard
 abbrev pub reading : ℕ → ℕ → Messages → Replica
-reading s p inbox = record { crashed = false; round = Idle; closed = s; phase = p; entry = λ t. 0; held = λ x. false; inbox = inbox }
+reading s p inbox = record { crashed = false; round = Idle; closed = s; phase = p; counts = no-counts; entry = λ t. 0; held = λ x. false; inbox = inbox }

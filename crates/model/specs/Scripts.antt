@@ -45,14 +45,15 @@ play w (look next) s = unless (λ why. ended (Refused why) s) (w .barred s) (pla
 -- ---- what an effect tells of its step
 
 abbrev pub accepted : Effect → Bool
-accepted = elim [ Refuse why ↦ false | Hold x ↦ true | Send so p w ↦ true | Close x ↦ true | Seek ↦ true | Receive so s p d w ↦ true | Halt ↦ true ]
+accepted = elim [ Refuse why ↦ false | Hold x ↦ true | Send so p w ↦ true | Close x own ↦ true | Seek ↦ true | Receive so s p d w ↦ true | Halt ↦ true ]
 
 abbrev pub closes : Effect → Bool
-closes = elim [ Refuse why ↦ false | Hold x ↦ false | Send so p w ↦ false | Close x ↦ true | Seek ↦ false | Receive so s p d w ↦ false | Halt ↦ false ]
+closes = elim [ Refuse why ↦ false | Hold x ↦ false | Send so p w ↦ false | Close x own ↦ true | Seek ↦ false | Receive so s p d w ↦ false | Halt ↦ false ]
 
 -- the answer of an effect: its refusal, or this one
 abbrev pub answered : Answer → Effect → Answer
-answered good = elim [ Refuse why ↦ Refused why | Hold x ↦ good | Send so p w ↦ good | Close x ↦ good | Seek ↦ good | Receive so s p d w ↦ good | Halt ↦ good ]
+answered good =
+    elim [ Refuse why ↦ Refused why | Hold x ↦ good | Send so p w ↦ good | Close x own ↦ good | Seek ↦ good | Receive so s p d w ↦ good | Halt ↦ good ]
 
 -- ---- the calls
 

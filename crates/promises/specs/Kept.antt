@@ -51,7 +51,7 @@ accepting good h why q = absurd (let r = sym h ∙ ap turned-away q in let z : _
 -- and an answer that refuses is the one of an effect that does
 refused-effect : (good : Answer) → turned-away good ≡ none → (why : Refusal) (e : Effect) → answered good e ≡ Refused why → e ≡ Refuse why
 refused-effect good h why =
-    elim [ Refuse w ↦ λ q. cc | Hold x ↦ never | Send so p w ↦ never | Close x ↦ never | Seek ↦ never | Receive so s p d w ↦ never | Halt ↦ never ]
+    elim [ Refuse w ↦ λ q. cc | Hold x ↦ never | Send so p w ↦ never | Close x own ↦ never | Seek ↦ never | Receive so s p d w ↦ never | Halt ↦ never ]
   where
     never : {e : Effect} → good ≡ Refused why → e ≡ Refuse why
     never = accepting good h why
@@ -131,7 +131,7 @@ unfolding write
 write-lengths N c (Refuse why) t = refl
 write-lengths N c (Hold x) t = simp (tags-length, holders-length)
 write-lengths N c (Send so p w) t = simp (record-length, proposals-length, ballots-length, length-set)
-write-lengths N c (Close x) t = simp (record-length, length-set)
+write-lengths N c (Close x own) t = simp (record-length, length-set)
 write-lengths N c Seek t = simp record-length
 write-lengths N c (Receive so s p d w) t = simp length-set
 write-lengths N c Halt t = simp record-length
@@ -287,9 +287,9 @@ module _ (N : Numbers) (strip : List ℕ) where
         room-left : listed x (take k os) ≡ false → k < N .room
         room-left e = ⊎-elim (λ q. clash (sym e ∙ q)) (λ l. subst (λ (j : ℕ). j < N .room) (length-take-le k os long) l) fits
 
-    closing-touches : (c : ℕ) → c < N .n → (x : ℕ) → TouchesOnly N t (write N c (Close x) t) Advance
+    closing-touches : (c : ℕ) → c < N .n → (x : ℕ) (own : Bool) → TouchesOnly N t (write N c (Close x own) t) Advance
     unfolding write
-    closing-touches c there x = (sends-keeps c there Notices _ 0 _ _ (elsewhere os _ x (inr (omega arith))), elsewhere os _ x (inr (omega arith)))
+    closing-touches c there x own = (sends-keeps c there Notices _ 0 _ _ (elsewhere os _ x (inr (omega arith))), elsewhere os _ x (inr (omega arith)))
 
     slot-low : (c : ℕ) → c < N .n → view N t .at c .closed < N .slots → record-at ws c .slot < N .slots
     unfolding only if
@@ -325,14 +325,14 @@ module _ (N : Numbers) (strip : List ℕ) where
       refl,
       refl,
     )
-    rule-touches c Advance lent there (by-notice heard) = closing-touches (c .0) there _
+    rule-touches c Advance lent there (by-notice heard) = closing-touches (c .0) there _ false
     rule-touches c Advance lent there (by-exchange i q) = (sends-keeps (c .0) there States _ 1 _ _ (agree-self os), agree-self os)
     rule-touches c Advance lent there (by-state i q) = (sends-keeps (c .0) there Votes _ _ _ _ (agree-self os), agree-self os)
-    rule-touches c Advance lent there (by-outcome-0 v o) = closing-touches (c .0) there 0
-    rule-touches c Advance lent there (by-outcome-1 v o ne) = closing-touches (c .0) there _
+    rule-touches c Advance lent there (by-outcome-0 v o) = closing-touches (c .0) there 0 true
+    rule-touches c Advance lent there (by-outcome-1 v o ne) = closing-touches (c .0) there _ true
     rule-touches c Advance lent there (by-seek v o z) = (record-keeps (c .0) there _ (agree-self os), agree-self os)
     rule-touches c Advance lent there (by-next-phase flip v o l) = (sends-keeps (c .0) there States _ _ _ _ (agree-self os), agree-self os)
-    rule-touches c Advance lent there (by-find i ne) = closing-touches (c .0) there _
+    rule-touches c Advance lent there (by-find i ne) = closing-touches (c .0) there _ true
     rule-touches c Crash lent there by-crash = (record-keeps (c .0) there _ (agree-self os), heard-kept ws (c .0) there _, refl, refl)
 
   came-touches : (t : Tables) (a : Step) → TouchesOnly N t (performed N strip a t) (a .act)

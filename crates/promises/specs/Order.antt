@@ -34,7 +34,7 @@ first-met (g ∷ gs) = if (g .met) (just (g .why)) (first-met gs)
 -- the refusal that a step comes to, and the one that a call answers; none: it is accepted
 abbrev pub refusal-of : Effect → Option Refusal
 refusal-of =
-    elim [ Refuse why ↦ just why | Hold x ↦ none | Send so p w ↦ none | Close x ↦ none | Seek ↦ none | Receive so s p d w ↦ none | Halt ↦ none ]
+    elim [ Refuse why ↦ just why | Hold x ↦ none | Send so p w ↦ none | Close x own ↦ none | Seek ↦ none | Receive so s p d w ↦ none | Halt ↦ none ]
 
 abbrev pub turned-away : Answer → Option Refusal
 turned-away = elim [ Refused why ↦ just why | Done ↦ none | Ran k ↦ none | Opened N ↦ none | Conducted k m ↦ none ]

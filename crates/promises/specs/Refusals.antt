@@ -62,7 +62,7 @@ rule-accepts by-crash = refl
 
 -- an effect's answer refuses as the effect does
 told-refusal : (good : Answer) → turned-away good ≡ none → (e : Effect) → turned-away (answered good e) ≡ refusal-of e
-told-refusal good h = elim [ Refuse why ↦ refl | Hold x ↦ h | Send so p w ↦ h | Close x ↦ h | Seek ↦ h | Receive so s p d w ↦ h | Halt ↦ h ]
+told-refusal good h = elim [ Refuse why ↦ refl | Hold x ↦ h | Send so p w ↦ h | Close x own ↦ h | Seek ↦ h | Receive so s p d w ↦ h | Halt ↦ h ]
 
 module _ (N : Numbers) (strip : List ℕ) where
   step-refuses : (a : Step) (t : Tables) → refusal-of (judge N strip a t) ≡ first-met (step-refusals N strip a t)
@@ -89,7 +89,7 @@ module _ (N : Numbers) (strip : List ℕ) where
     | Refuse why ↦ λ g. clash g
     | Hold x ↦ λ g. refl
     | Send so p w ↦ λ g. refl
-    | Close x ↦ λ g. refl
+    | Close x own ↦ λ g. refl
     | Seek ↦ λ g. refl
     | Receive so s p d w ↦ λ g. refl
     | Halt ↦ λ g. refl

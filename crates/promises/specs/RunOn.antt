@@ -17,7 +17,7 @@ use Rattle.safety.specs.RunOn.{left, left-below}
 use Rattle.tables.specs.Layout.{Tables, record-end, record-at}
 use Rattle.tables.specs.View.{view}
 use Rattle.tables.specs.Records.{same-record}
-use Rattle.tables.specs.Write.{entered, write}
+use Rattle.tables.specs.Write.{moved, with-change, write}
 use Rattle.tables.specs.Calls.{lent-refusals, judge, performed, on-tables, ran-on}
 use Rattle.tables.specs.Sound.{Sound, lent-sound, record-there, own-view}
 use Rattle.promises.specs.Order.{step-refusals}
@@ -30,13 +30,14 @@ module _ (N : Numbers) (strip : List ℕ) (c : ReplicaId) where
   abbrev left-on : Tables → ℕ
   left-on t = left-in (t .words)
 
-  entered-left : (ws : List ℕ) (a : Round) (s p : ℕ) → record-end (c .0) ≤ length ws → left-in (entered ws (c .0) a s p) ≡ left N a p
-  entered-left ws a s p l =
+  moved-left : (ws : List ℕ) (a : Round) (s p : ℕ) → record-end (c .0) ≤ length ws → left-in (with-change ws (c .0) (moved a s p)) ≡ left N a p
+  moved-left ws a s p l =
       ap (λ (k : Record). left N (round-in (k .round)) (k .phase)) (same-record ws (c .0) _ l) ∙ ap (λ (a : Round). left N a p) (round-back a)
 
   -- the same where a mark was stored first
-  sent-left : (ws : List ℕ) (i v : ℕ) (a : Round) (s p : ℕ) → record-end (c .0) ≤ length ws → left-in (entered (store-at ws i v) (c .0) a s p) ≡ left N a p
-  sent-left ws i v a s p l = entered-left (store-at ws i v) a s p (rw length-set l)
+  sent-left : (ws : List ℕ) (i v : ℕ) (a : Round) (s p : ℕ) → record-end (c .0) ≤ length ws
+      → left-in (with-change (store-at ws i v) (c .0) (moved a s p)) ≡ left N a p
+  sent-left ws i v a s p l = moved-left (store-at ws i v) a s p (rw length-set l)
 
   module _ (t : Tables) where
     abbrev Fewer : Effect → Type 0
@@ -56,7 +57,7 @@ module _ (N : Numbers) (strip : List ℕ) (c : ReplicaId) where
       by-rule (by-state was q) g = rw (sent-left (t .words) _ _ Vote _ _ there, as-read, was) (omega arith)
       by-rule (by-outcome-0 v e) g = clash g
       by-rule (by-outcome-1 v e ne) g = clash g
-      by-rule (by-seek v e z) g = rw (entered-left (t .words) Find _ _ there, as-read, v .in-round) (omega arith)
+      by-rule (by-seek v e z) g = rw (moved-left (t .words) Find _ _ there, as-read, v .in-round) (omega arith)
       by-rule (by-next-phase flip v e l) g = rw (sent-left (t .words) _ _ State _ _ there, as-read, v .in-round) (omega arith)
       by-rule (by-find was ne) g = clash g
 

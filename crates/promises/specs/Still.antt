@@ -10,12 +10,12 @@ use mathlib.Core.Path.{_≡_, refl, sym, _∙_, ap, ap₂, subst}
 use lib.Dec.{leb}
 use lib.ListN.{length, take, length-set, set as store-at}
 use lib.Seq.{getD-set-same, length-take-le}
-use borrow.Author.Tests.{le-ltb, lt-leb}
+use borrow.Author.Tests.{lt-leb}
 use Rattle.tables.specs.declared.Record.{Record}
 use Rattle.tables.specs.Types.{Numbers, Round, Idle, Exchange, State, Vote, Find, Sort, Proposals, States, Votes, Notices, Effect, Act, Step}
 use Rattle.model.specs.Tests.{listed}
-use Rattle.model.specs.Rack.{same-round, round-of, Replica}
-use Rattle.model.specs.Rules.{is-crash, phase-in}
+use Rattle.model.specs.Rack.{same-round, round-of, tag-of, Replica}
+use Rattle.model.specs.Rules.{is-crash, majority-tag, notice, phase-in}
 use Rattle.model.specs.Conductor.{for-each}
 use Rattle.model.specs.Scripts.{play, accepted, after-all}
 use Rattle.model.proofs.Cases.{clash, either, and-none, if-ind, unless-ind, unmet-both}
@@ -26,12 +26,12 @@ use Rattle.tables.specs.Layout.{Tables, known-cell, known-in, record-end, recor
 use Rattle.tables.specs.View.{view}
 use Rattle.tables.specs.Records.{other-record, same-record}
 use Rattle.tables.specs.Sections.{elsewhere, record-elsewhere, record-agrees}
-use Rattle.tables.specs.Write.{moved, entered, words-held, words-sent, words-closed, write, unstored}
+use Rattle.tables.specs.Write.{moved, shut, with-change, words-held, words-sent, words-closed, write, unstored}
 use Rattle.tables.specs.Checks.{lengths, misplaced, spoiled, any-spoiled}
 use Rattle.tables.specs.Calls.{lent-refusals, judge, performed, on-tables, stepped}
 use Rattle.tables.specs.Bounds.{Long}
 use Rattle.tables.specs.Addresses.{state-in}
-use Rattle.tables.specs.Sound.{moved-fine, Sound, lent-sound, record-there, own-unspoiled, stands, own-view, seen-low, noticed-low}
+use Rattle.tables.specs.Sound.{moved-fine, shut-fine, Sound, lent-sound, record-there, own-unspoiled, own-counts, stands, own-view, seen-low, noticed-low}
 use Rattle.promises.specs.Order.{step-refusals}
 use Rattle.promises.specs.Kept.{step-lengths-kept}
 
@@ -96,24 +96,23 @@ module _ (N : Numbers) (t : Tables) (fine : Sound N t) where
   }
 
   module _ (c : ℕ) (here : c < n) where
-    -- the acting replica enters a round that goes with its slot and phase
-    enters : (l : List ℕ) (a : Round) (s p : ℕ) → record-end c ≤ length l → misplaced N a s p ≡ false → Stays l → Stays (entered l c a s p)
+    abbrev k : Record
+    k = record-at ws c
+
+    -- the acting replica's record changes to one that is fit, where the words have it as it was
+    enters : (l : List ℕ) (move : Record → Record) → record-end c ≤ length l → record-at l c ≡ k → Fit N k (move k) → Stays l → Stays (with-change l c move)
     unfolding known-in
-    enters l a s p there placed steady = record {
+    enters l move there same fit steady = record {
       known = rw (record-elsewhere {lo = 0} {hi = 1} l c new (inr (omega arith)) .at 0 (omega arith) (omega arith)) (steady .known);
       fit = λ d h. go d h (ℕ-discrete d c);
     }
       where
         new : Record
-        new = moved a s p (record-at l c)
+        new = move (record-at l c)
 
         go : (d : ℕ) → d < n → Dec (d ≡ c) → Fit N (record-at ws d) (record-at (record-stored l c new) d)
-        go d h (yes e) = let good = moved-fine N a s p (record-at l c) placed in
-            rw e (subst (Fit N (record-at ws c)) (sym (same-record l c new there)) (good, steady .fit c here .1))
+        go d h (yes e) = rw e (subst (Fit N k) (sym (same-record l c new there ∙ ap move same)) fit)
         go d h (no ne) = subst (Fit N (record-at ws d)) (sym (other-record l c new there d ne)) (steady .fit d h)
-
-    abbrev k : Record
-    k = record-at ws c
 
     abbrev seen : Replica
     seen = view N t .at c
@@ -127,15 +126,20 @@ module _ (N : Numbers) (t : Tables) (fine : Sound N t) where
     low : (a : Round) → same-round a Idle ≡ false → seen .round ≡ a → k .slot < slots
     low a busy q = seen-low N fine here a busy q
 
-    -- the mark of its message is stored, and it enters a round
-    marks : (so : Sort) (q : ℕ) (a : Round) (s p : ℕ) → misplaced N a s p ≡ false
-        → Stays (entered (store-at ws (heard-cell N so (k .slot) q c) (2 ^ c)) c a s p)
-    marks so q a s p e = let i = heard-cell N so (k .slot) q c in
-        enters (store-at ws i (2 ^ c)) a s p (rw length-set (record-there N fine here)) e (stored-behind i (2 ^ c) (omega arith))
+    -- the mark of its message is stored, and its record changes
+    marks : (so : Sort) (q : ℕ) (move : Record → Record) → Fit N k (move k)
+        → Stays (with-change (store-at ws (heard-cell N so (k .slot) q c) (2 ^ c)) c move)
+    marks so q move fit = let i = heard-cell N so (k .slot) q c in
+        enters (store-at ws i (2 ^ c)) move (rw length-set (record-there N fine here)) (record-agrees c (elsewhere ws i (2 ^ c) (inr (omega arith)))) fit
+        (stored-behind i (2 ^ c) (omega arith))
+
+    -- it enters a round of its slot that goes with the phase
+    moves : (a : Round) (p : ℕ) → misplaced N a (k .slot) p ≡ false → Fit N k (moved a (k .slot) p k)
+    moves a p e = (moved-fine N a (k .slot) p k e (own-counts N fine here), refl)
 
     -- it sends a message, and waits in the round of that
     sends : (so : Sort) (p : ℕ) → misplaced N (round-of so) (k .slot) p ≡ false → Stays (words-sent N c so p ws)
-    sends so p e = marks so p (round-of so) (k .slot) p e
+    sends so p e = marks so p (moved (round-of so) (k .slot) p) (moves (round-of so) p e)
 
     -- a state is sent for a phase of the run
     sends-state : (p : ℕ) → k .slot < slots → 1 ≤ p → p ≤ phases → Stays (words-sent N c States p ws)
@@ -143,9 +147,8 @@ module _ (N : Numbers) (t : Tables) (fine : Sound N t) where
     sends-state p l some few = sends States p (ap₂ (λ (a b : Bool). a || not b) (lt-leb slots (k .slot) l) (state-in N p some few))
 
     -- it closes its slot, and so sends its notice
-    closed : k .slot < slots → Stays (words-closed N c ws)
-    unfolding misplaced
-    closed l = marks Notices 0 Idle _ _ (le-ltb slots (suc (k .slot)) l)
+    closed : (x : ℕ) (own : Bool) → k .slot < slots → Stays (words-closed N c x own ws)
+    closed x own l = marks Notices 0 (shut x own) (shut-fine N x own k l (own-counts N fine here), refl)
 
     -- it holds a tag that is known, or for which there is room
     holds : (x : ℕ) → (listed x (take (known-in ws) (t .orders)) ≡ true) ⊎ (length (take (known-in ws) (t .orders)) < room)
@@ -171,14 +174,15 @@ module _ (N : Numbers) (t : Tables) (fine : Sound N t) where
     by-rule no-crash (by-begin idle open-slot some) = let l = subst (λ (x : Replica). x .closed < slots) (own-view N t here) open-slot in
         sends Proposals 0 (lt-leb slots (k .slot) l)
     by-rule no-crash (by-hear so hd hs hp sent free) = stored-behind _ _ (omega arith)
-    by-rule no-crash (by-notice heard) = closed (noticed-low N t here heard)
+    by-rule no-crash (by-notice heard) = closed (tag-of (notice N seen)) false (noticed-low N t here heard)
     by-rule no-crash (by-exchange was enough) = sends-state 1 (low Exchange refl was) (omega arith) (fine .within .phases-some)
     by-rule no-crash (by-state was enough) = sends Votes (seen .phase) (placed State was)
-    by-rule no-crash (by-outcome-0 v o) = closed (low Vote refl (v .in-round))
-    by-rule no-crash (by-outcome-1 v o some) = closed (low Vote refl (v .in-round))
-    by-rule no-crash (by-seek v o none) = enters ws Find _ _ (record-there N fine here) (lt-leb slots (k .slot) (low Vote refl (v .in-round))) unchanged
+    by-rule no-crash (by-outcome-0 v o) = closed 0 true (low Vote refl (v .in-round))
+    by-rule no-crash (by-outcome-1 v o some) = closed (majority-tag N seen) true (low Vote refl (v .in-round))
+    by-rule no-crash (by-seek v o none) = let fit = moves Find (k .phase) (lt-leb slots (k .slot) (low Vote refl (v .in-round))) in
+        enters ws (moved Find (k .slot) (k .phase)) (record-there N fine here) refl fit unchanged
     by-rule no-crash (by-next-phase flip v o more) = sends-state (suc (seen .phase)) (low Vote refl (v .in-round)) (omega arith) more
-    by-rule no-crash (by-find was some) = closed (low Find refl was)
+    by-rule no-crash (by-find was some) = closed (majority-tag N seen) true (low Find refl was)
     by-rule no-crash by-crash = clash (sym no-crash)
 
 module _ (N : Numbers) (strip : List ℕ) (a : Step) (t : Tables) where

@@ -12,7 +12,7 @@ use Rattle.model.specs.TurnedAway.{unless}
 use Rattle.model.specs.Rules.{phase-in, hear-rule, own-rule}
 use Rattle.model.specs.Scripts.{play as make}
 use Rattle.tables.specs.Layout.{known-in, record-at, row, words-need, orders-need, ballots-need}
-use Rattle.tables.specs.Checks.{long, misplaced, spoiled, any-spoiled}
+use Rattle.tables.specs.Checks.{long, misplaced, astray, overcounted, spoiled, any-spoiled}
 use Rattle.tables.specs.View.{only, word-in, in-run, guarded, letter}
 use Rattle.tables.specs.Write.{write}
 use Rattle.tables.specs.Calls.{tables, judge, stepped, opened, open-rack, called}
@@ -41,7 +41,8 @@ refused = text "refused 1 2\nrefused 2 21\nrefused 3 21\n"
 pub reports : (rehearsal (file 0) ≡ with-16) × (rehearsal (file 16) ≡ with-16) × (rehearsal (file 17) ≡ refused)
 unfolding rehearsal blank blank-strip report whole lines line-on said-line play turn turned called-in-place file-record step-kind is-wide
     step-length step-at act-at number called stepped judge opened open-rack write make round-in unless if any limited filled-cells phase-in
-    hear-rule own-rule known-in record-at row long misplaced spoiled any-spoiled only word-in in-run guarded letter digits entries-text bench-lines
+    hear-rule own-rule known-in record-at row long misplaced astray overcounted spoiled any-spoiled only word-in in-run guarded letter digits
+    entries-text bench-lines
 reports = (refl, refl, refl)
 
 -- ---- bands
@@ -67,7 +68,8 @@ pub band-report : rehearsal band-file ≡ text "refused 1 1\nrefused 2 2\nrefuse
     ++ text "refused 8 17\nrefused 9 17\nrefused 10 16\nbench 0 lit 0\nbench 1 lit 0\nbench 2 lit 0\n"
 unfolding rehearsal blank blank-strip report whole lines line-on said-line play turn turned called-in-place file-record step-kind is-wide
     step-length step-at act-at number called stepped judge opened open-rack write make round-in unless if any limited filled-cells phase-in
-    hear-rule own-rule known-in record-at row long misplaced spoiled any-spoiled only word-in in-run guarded letter digits entries-text bench-lines
+    hear-rule own-rule known-in record-at row long misplaced astray overcounted spoiled any-spoiled only word-in in-run guarded letter digits
+    entries-text bench-lines
 band-report = refl
 
 -- "case 'slots 65' of document 01 now opens, by either kind", where the tables are for as many
@@ -83,6 +85,6 @@ all-lit = text "controllers 3 spare 1\nbench 0 lit 0\nbench 1 lit 0\nbench 2 lit
 
 pub slots-65-open : (report-65 (old-opening 65) ≡ all-lit) × (report-65 (new-opening 65 0) ≡ all-lit)
 unfolding report whole lines line-on said-line play turn turned called-in-place file-record step-kind is-wide step-length step-at act-at number called
-    opened open-rack make round-in unless if any limited filled-cells known-in record-at row long misplaced spoiled any-spoiled only digits
+    opened open-rack make round-in unless if any limited filled-cells known-in record-at row long misplaced astray overcounted spoiled any-spoiled only digits
     entries-text bench-lines
 slots-65-open = (refl, refl)

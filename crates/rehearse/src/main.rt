@@ -21,7 +21,7 @@ fn rehearse(file: &[u8], report: &mut [u8]) -> usize
         phases: 16,
         room: 64,
     };
-    let mut words = [0u16; 3901];
+    let mut words = [0u16; 3915];
     let mut orders = [0u64; 288];
     let mut ballots = [0u8; 3584];
     let mut strip = [0u8; 256];

@@ -24,7 +24,7 @@ use Rattle.rounds.specs.Made.{accepts, Made}
 -- an accepted step is answered so
 answered-accepts : (e : Effect) → accepts (answered Done e) ≡ accepted e
 answered-accepts =
-    elim [ Refuse why ↦ refl | Hold x ↦ refl | Send so p w ↦ refl | Close x ↦ refl | Seek ↦ refl | Receive so s p d w ↦ refl | Halt ↦ refl ]
+    elim [ Refuse why ↦ refl | Hold x ↦ refl | Send so p w ↦ refl | Close x own ↦ refl | Seek ↦ refl | Receive so s p d w ↦ refl | Halt ↦ refl ]
 
 module _ (N : Numbers) (strip : List ℕ) where
   abbrev w : Stage Tables

@@ -28,7 +28,7 @@ pub fn goes_on(effect: Effect) -> bool
             phase: _,
             word: _,
         } => true,
-        Effect::Close(_) => false,
+        Effect::Close { entry: _, own: _ } => false,
         Effect::Seek => true,
         Effect::Receive {
             sort: _,
@@ -64,7 +64,7 @@ pub fn stopped(count: usize, effect: Effect) -> Answer
             phase: _,
             word: _,
         } => Answer::Ran(count + 1),
-        Effect::Close(_) => Answer::Ran(count + 1),
+        Effect::Close { entry: _, own: _ } => Answer::Ran(count + 1),
         Effect::Seek => Answer::Ran(count + 1),
         Effect::Receive {
             sort: _,

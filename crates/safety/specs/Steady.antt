@@ -154,7 +154,7 @@ module _ (N : Numbers) where
       goes-on busy so p w next due sent g =
           changed _ g (sender so p w next due sent (stood .within busy) g (bid-grows (r .at c .closed) c g (stood .bid busy)))
 
-      closer : a ≢ Idle → (x : ℕ) → Grows (r .sent) (apply c (Close x) r .sent) → SteadyRack (apply c (Close x) r)
+      closer : a ≢ Idle → (x : ℕ) → Grows (r .sent) (apply c (Close x true) r .sent) → SteadyRack (apply c (Close x true) r)
       unfolding apply
       closer busy x g = changed _ g (idles _ c (suc (r .at c .closed)) (r .at c .phase) (stood .within busy))
 

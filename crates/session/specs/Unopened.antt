@@ -19,7 +19,7 @@ module _ (P : Answer → Type 0) (refused : (why : Refusal) → P (Refused why))
   told-ind good h (Refuse why) = refused why
   told-ind good h (Hold x) = h
   told-ind good h (Send so q w) = h
-  told-ind good h (Close x) = h
+  told-ind good h (Close x own) = h
   told-ind good h Seek = h
   told-ind good h (Receive so s q d w) = h
   told-ind good h Halt = h

@@ -73,7 +73,7 @@ module _ (N : Numbers) (r : Record) (e : ℕ → ℕ) (h : ℕ → Bool) (m : Me
       λ i. TooFewHeard when ltb (c i) (quorum N) ∷ [] ⊢ Send States 1 (Say (not (eqb (tag-alike i) 0)))
 
   find-alike : find-rule N k ≡ find-rule N k′
-  find-alike = λ i. TooFewHeard when eqb (tag-alike i) 0 ∷ [] ⊢ Close (tag-alike i)
+  find-alike = λ i. TooFewHeard when eqb (tag-alike i) 0 ∷ [] ⊢ Close (tag-alike i) true
 
   module _ (p : phase-in N States (r .phase) ≡ true) where
     state-alike : state-rule N k ≡ state-rule N k′
@@ -98,7 +98,7 @@ module _ (N : Numbers) (r : Record) (e : ℕ → ℕ) (h : ℕ → Bool) (m : Me
     conclude-alike : (o : Outcome) → conclude N flip k o ≡ conclude N flip k′ o
     unfolding conclude
     conclude-alike (Decided false) = refl
-    conclude-alike (Decided true) = λ i. if (eqb (tag-alike i) 0) Seek (Close (tag-alike i))
+    conclude-alike (Decided true) = λ i. if (eqb (tag-alike i) 0) Seek (Close (tag-alike i) true)
     conclude-alike Undecided = λ i. Send States (suc (r .phase)) (Say (if (leb 1 (zeros i)) false (if (leb 1 (ones i)) true flip)))
 
     vote-alike : vote-rule N flip k ≡ vote-rule N flip k′

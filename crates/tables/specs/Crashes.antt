@@ -27,7 +27,8 @@ either false h k = k refl
 -- a record that is put back as it was
 record-back : (ws : List ℕ) (c : ℕ) → record-stored ws c (record-at ws c) ≡ ws
 unfolding record-stored record-at
-record-back ws c = let i = record-cell c in rw (set-getD ws i 0, set-getD ws (i + 1) 0, set-getD ws (i + 2) 0, set-getD ws (i + 3) 0)
+record-back ws c = let i = record-cell c in
+    rw (set-getD ws i 0, set-getD ws (i + 1) 0, set-getD ws (i + 2) 0, set-getD ws (i + 3) 0, set-getD ws (i + 4) 0, set-getD ws (i + 5) 0)
 
 module _ (N : Numbers) (strip : List ℕ) (c : ReplicaId) (t : Tables) where
   refused-back : (why : Refusal) → ended (Refused why) t ≡ ended (Refused why) (with-record N (c .0) (record-at (t .words) (c .0)) t)

@@ -40,7 +40,9 @@ record-elsewhere {lo} {hi} l c k out =
     agree-more (elsewhere l (record-cell c) (k .crashed) (out-at _ (omega arith) (omega arith)))
     (agree-more (elsewhere _ (record-cell c + 1) (k .round) (out-at _ (omega arith) (omega arith)))
     (agree-more (elsewhere _ (record-cell c + 2) (k .slot) (out-at _ (omega arith) (omega arith)))
-    (elsewhere _ (record-cell c + 3) (k .phase) (out-at _ (omega arith) (omega arith)))))
+    (agree-more (elsewhere _ (record-cell c + 3) (k .phase) (out-at _ (omega arith) (omega arith)))
+    (agree-more (elsewhere _ (record-cell c + 4) (k .empty) (out-at _ (omega arith) (omega arith)))
+    (elsewhere _ (record-cell c + 5) (k .fast) (out-at _ (omega arith) (omega arith)))))))
   where
     out-at : (j : ℕ) → record-cell c ≤ j → j < record-end c → Outside lo hi j (j + 1)
     out-at j a b = ⊎-elim (λ (h : record-end c ≤ lo). inl (omega arith)) (λ (h : hi ≤ record-cell c). inr (omega arith)) out
@@ -53,6 +55,8 @@ record-agrees c same = λ i. record {
   round = same .at (record-cell c + 1) (omega arith) (omega arith) i;
   slot = same .at (record-cell c + 2) (omega arith) (omega arith) i;
   phase = same .at (record-cell c + 3) (omega arith) (omega arith) i;
+  empty = same .at (record-cell c + 4) (omega arith) (omega arith) i;
+  fast = same .at (record-cell c + 5) (omega arith) (omega arith) i;
 }
 
 -- ---- the sections

@@ -1,10 +1,10 @@
 -- What is known of a record that is not spoiled, and of memories where refusals 3 and 2 of a step are not met.
-use Prim.Native.Nat.{ℕ, _≤_, _<_, zero-le}
+use Prim.Native.Nat.{ℕ, suc, _≤_, _<_, zero-le}
 use native.Mathlib.Omega.{arith}
 use mathlib.Core.Bool.{Bool, true, false, not, _&&_, _||_}
 use mathlib.Core.List.{List}
 use mathlib.Core.Path.{_≡_, refl, sym, _∙_, ap, ap₂, subst}
-use lib.Dec.{leb, ltb}
+use lib.Dec.{leb, ltb, eqb}
 use lib.ListN.{length}
 use borrow.Author.Tests.{ltb-true, ltb-false, leb-false, le-leb, le-ltb, lt-ltb, not-false}
 use Rattle.tables.specs.Types.{Numbers, Round, Idle, Exchange, State, Vote, Find, States, Votes, Notices, Step, Record}
@@ -14,12 +14,12 @@ use Rattle.model.specs.Rack.{round-number, round-in, same-round, is-sent, Repli
 use Rattle.model.specs.Rules.{is-crash, phase-in, seen, notice}
 use Rattle.model.proofs.Branches.{if-true}
 use Rattle.model.proofs.Cases.{clash, or-false, or-none, if-ind, Unmet, round-back}
-use Rattle.model.proofs.Counting.{any-false}
+use Rattle.model.proofs.Counting.{one-bit, any-false}
 use Rattle.model.proofs.FirstSent.{first-found}
 use Rattle.tables.specs.Layout.{Tables, known-in, record-end, record-at}
 use Rattle.tables.specs.View.{only, replica-at, view}
-use Rattle.tables.specs.Write.{moved}
-use Rattle.tables.specs.Checks.{lengths, misplaced, spoiled, spoiled-at, any-spoiled, tables-refusals, record-refusals}
+use Rattle.tables.specs.Write.{moved, shut}
+use Rattle.tables.specs.Checks.{lengths, misplaced, astray, overcounted, spoiled, spoiled-at, any-spoiled, tables-refusals, record-refusals}
 use Rattle.tables.specs.Addresses.{guarded-sent}
 use Rattle.tables.specs.Bounds.{Bounds, bounds, within-limits, Long, is-long, long-enough}
 use Rattle.tables.specs.Calls.{lent-refusals}
@@ -64,10 +64,41 @@ round-low State = omega arith
 round-low Vote = omega arith
 round-low Find = omega arith
 
--- a record is not spoiled where its round, slot and phase go together
-pub moved-fine : (N : Numbers) (a : Round) (s p : ℕ) (k : Record) → misplaced N a s p ≡ false → spoiled N (moved a s p k) ≡ false
-unfolding spoiled
-moved-fine N a s p k e = ap₂ (λ (x y : Bool). x || y) (le-ltb 4 (round-number a) (round-low a)) (ap (λ (a : Round). misplaced N a s p) (round-back a) ∙ e)
+-- ---- counts
+
+-- neither count exceeds the closed slots
+abbrev pub CountsFit : Record → Type 0
+CountsFit k = (k .empty ≤ k .slot) × (k .fast ≤ k .slot)
+
+counts-low : (k : Record) → CountsFit k → overcounted k ≡ false
+unfolding overcounted
+counts-low k fit = or-none _ _ (le-ltb _ _ (fit .0)) (le-ltb _ _ (fit .1))
+
+-- ---- records that are not spoiled
+
+module _ (N : Numbers) (k : Record) (fine : spoiled N k ≡ false) where
+  pub fine-stands : misplaced N (round-in (k .round)) (k .slot) (k .phase) ≡ false
+  unfolding spoiled astray
+  fine-stands = or-false (ltb 4 (k .round)) _ (or-false (astray N k) _ fine .0) .1
+
+  pub fine-counts : CountsFit k
+  unfolding spoiled overcounted
+  fine-counts = let (e, f) = or-false (ltb (k .slot) (k .empty)) _ (or-false (astray N k) _ fine .1) in
+      (ltb-false _ _ e, ltb-false _ _ f)
+
+module _ (N : Numbers) where
+  -- where a round, slot and phase go together, and the counts with the slot
+  pub moved-fine : (a : Round) (s p : ℕ) (k : Record) → misplaced N a s p ≡ false → CountsFit (moved a s p k) → spoiled N (moved a s p k) ≡ false
+  unfolding spoiled astray
+  moved-fine a s p k e fit = or-none _ _
+      (ap₂ (λ (x y : Bool). x || y) (le-ltb 4 (round-number a) (round-low a)) (ap (λ (a : Round). misplaced N a s p) (round-back a) ∙ e)) (counts-low _ fit)
+
+  -- a close raises neither count by more than the slot
+  pub shut-fine : (x : ℕ) (own : Bool) (k : Record) → k .slot < N .slots → CountsFit k → spoiled N (shut x own k) ≡ false
+  unfolding misplaced
+  shut-fine x own k low fit = let e = fit .0 in let f = fit .1 in
+      moved-fine Idle (suc (k .slot)) (k .phase) (shut x own k) (le-ltb _ _ low)
+      (omega (arith, one-bit (eqb x 0)), omega (arith, one-bit (own && eqb (k .phase) 1)))
 
 -- ---- memories that passed
 
@@ -81,8 +112,7 @@ module _ (N : Numbers) where
     unspoiled-there = sym (ap (λ (b : Bool). b && spoiled N (record-at ws c)) (le-leb _ _ long)) ∙ any-false n (spoiled-at N ws) e c there
 
     pub unspoiled-stands : let k = record-at ws c in misplaced N (round-in (k .round)) (k .slot) (k .phase) ≡ false
-    unfolding spoiled
-    unspoiled-stands = or-false (ltb 4 (record-at ws c .round)) _ unspoiled-there .1
+    unspoiled-stands = fine-stands N _ unspoiled-there
 
   pub record Sound (t : Tables) : Type 0 where
     pub within : Bounds N
@@ -118,6 +148,9 @@ module _ (N : Numbers) where
 
     pub own-unspoiled : spoiled N (record-at (t .words) c) ≡ false
     own-unspoiled = unspoiled-there (t .words) there record-there (fine .unspoiled)
+
+    pub own-counts : CountsFit (record-at (t .words) c)
+    own-counts = fine-counts N _ own-unspoiled
 
     -- its round, slot and phase go together
     pub stands : let k = record-at (t .words) c in misplaced N (round-in (k .round)) (k .slot) (k .phase) ≡ false
