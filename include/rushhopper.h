@@ -53,8 +53,15 @@ struct rushhopper_slot { size_t index; };
 struct rushhopper_phase { size_t index; };
 
 /* A replica's record. crashed is 0 for a running replica; round is an enum rushhopper_round; slot is the number of slots it
- * has closed, and so its current slot; phase counts in a state or vote round. */
-struct rushhopper_record { uint16_t crashed, round, slot, phase; };
+ * has closed, and so its current slot; phase counts in a state or vote round.
+ *
+ * Two counts are raised when a slot closes, and are never above slot: empty counts the empty slots that it has closed, fast the
+ * closed slots whose outcome it reached in phase 1 itself, with a find round after it or without. A slot closed by a notice is
+ * not fast. */
+struct rushhopper_record { uint16_t crashed, round, slot, phase, empty, fast; };
+
+/* How many words a record has in the memory: those of the struct, in its order. */
+#define RUSHHOPPER_RECORD_LENGTH 6
 
 enum rushhopper_round {
     RUSHHOPPER_ROUND_IDLE = 0,
@@ -85,7 +92,8 @@ enum rushhopper_refusal {
     RUSHHOPPER_ACCEPTED = 0,
     RUSHHOPPER_BAD_PLAN = 1,          /* opening, strip or archive: a number beyond the limits */
     RUSHHOPPER_SHORT_TABLE = 2,       /* a lent memory or strip shorter than the run needs; archive: a short output */
-    RUSHHOPPER_SPOILED_RECORD = 3,    /* numbers beyond the limits, more known tags than room, or a record out of range */
+    RUSHHOPPER_SPOILED_RECORD = 3,    /* numbers beyond the limits, more known tags than room, or a record out of range;
+                                         also one with a count above its closed slots */
     RUSHHOPPER_NO_SUCH_REPLICA = 4,   /* "no such bench": the acting replica or the sender is n or more */
     RUSHHOPPER_CRASHED = 5,           /* "dark": the acting replica has crashed */
     RUSHHOPPER_BLANK_TAG = 6,         /* tag 0 */
@@ -126,7 +134,8 @@ struct rushhopper_played { size_t written, opened; struct rushhopper_numbers num
  * opening. The functions are the same for numbers that are known only when the program runs. */
 #define RUSHHOPPER_PHASES(phases) ((size_t)((phases) == 0 ? RUSHHOPPER_DEFAULT_PHASES : (phases)))
 #define RUSHHOPPER_WORDS_LENGTH(n, slots, phases, room) \
-    (4 * (size_t)(n) + 1 + (size_t)(room) + (size_t)(slots) * (2 * RUSHHOPPER_PHASES(phases) + 2) * (size_t)(n))
+    (RUSHHOPPER_RECORD_LENGTH * (size_t)(n) + 1 + (size_t)(room) + \
+     (size_t)(slots) * (2 * RUSHHOPPER_PHASES(phases) + 2) * (size_t)(n))
 #define RUSHHOPPER_ORDERS_LENGTH(n, slots, room) ((size_t)(room) + 2 * (size_t)(slots) * (size_t)(n))
 #define RUSHHOPPER_BALLOTS_LENGTH(n, slots, phases) (2 * (size_t)(slots) * RUSHHOPPER_PHASES(phases) * (size_t)(n))
 #define RUSHHOPPER_STRIP_LENGTH(slots, phases) ((size_t)(slots) * RUSHHOPPER_PHASES(phases))
@@ -191,8 +200,8 @@ static inline size_t rushhopper_report_length(size_t file_length, struct rushhop
 /* Fills a strip with the coins of all slots and phases, from entry start (0 to 510) of the coin table. Refusals 1, 2. */
 size_t rushhopper_fill_strip(size_t slots, size_t phases, size_t start, uint8_t *strip, size_t strip_length);
 
-/* Starts a run: all replicas running and idle at slot 0, the part of each memory that the run needs cleared, the strip
- * filled from start. A phase limit of 0 stands for 16. Refusals 1, 2. */
+/* Starts a run: all replicas running and idle at slot 0, their counts 0, the part of each memory that the run needs cleared, the
+ * strip filled from start. A phase limit of 0 stands for 16. Refusals 1, 2. */
 struct rushhopper_opened rushhopper_open(struct rushhopper_numbers numbers, size_t start,
                                          RUSHHOPPER_MEMORIES, uint8_t *strip, size_t strip_length);
 
@@ -228,8 +237,8 @@ size_t rushhopper_advance(struct rushhopper_numbers numbers, struct rushhopper_r
 struct rushhopper_ran rushhopper_run_on(struct rushhopper_numbers numbers, struct rushhopper_replica who,
                                         RUSHHOPPER_MEMORIES, const uint8_t *strip, size_t strip_length);
 
-/* The replica stops for good. Lent the one record of the replica that it names; one whose number is n or more may be lent
- * any record. Refusals 3, 4, 5. */
+/* The replica stops for good; its counts stay. Lent the one record of the replica that it names; one whose number is n or more
+ * may be lent any record. Refusals 3, 4, 5. */
 size_t rushhopper_crash(struct rushhopper_numbers numbers, struct rushhopper_replica who, struct rushhopper_record *record);
 
 /* Takes all running replicas through their next slot, with no hearing named. They must be at least a quorum and all idle at
@@ -363,24 +372,33 @@ static inline size_t rushhopper_known_of(const struct rushhopper_memories *rack)
     return rack->words_length == 0 ? 0 : rack->words[0];
 }
 
-/* Whether a replica is of the run and its record in the memory: four words behind the count of known tags. */
+/* Whether a replica is of the run and its record in the memory: all its words, behind the count of known tags. */
 static inline int rushhopper_has_record(const struct rushhopper_memories *rack, struct rushhopper_replica who)
 {
-    return who.number < rack->numbers.n && rack->words_length > 0 && who.number < (rack->words_length - 1) / 4;
+    return who.number < rack->numbers.n && rack->words_length > 0
+        && who.number < (rack->words_length - 1) / RUSHHOPPER_RECORD_LENGTH;
 }
 
-/* The record of a replica; a blank one where there is none. */
+/* Where a replica's record starts in the words: behind the count of known tags and the records of those before it. */
+static inline size_t rushhopper_record_start(struct rushhopper_replica who)
+{
+    return 1 + RUSHHOPPER_RECORD_LENGTH * who.number;
+}
+
+/* The record of a replica, with its counts; a blank one where there is none. */
 static inline struct rushhopper_record rushhopper_record_of(const struct rushhopper_memories *rack,
                                                             struct rushhopper_replica who)
 {
-    struct rushhopper_record record = {0, 0, 0, 0};
+    struct rushhopper_record record = {0, 0, 0, 0, 0, 0};
 
     if (rushhopper_has_record(rack, who)) {
-        const uint16_t *words = rack->words + 1 + 4 * who.number;
+        const uint16_t *words = rack->words + rushhopper_record_start(who);
         record.crashed = words[0];
         record.round = words[1];
         record.slot = words[2];
         record.phase = words[3];
+        record.empty = words[4];
+        record.fast = words[5];
     }
     return record;
 }
@@ -449,7 +467,7 @@ static inline size_t rushhopper_crash_in(struct rushhopper_memories *rack, struc
         return refusal;
     if (!rushhopper_has_record(rack, who))
         return RUSHHOPPER_SHORT_TABLE;
-    rack->words[1 + 4 * who.number] = record.crashed;
+    rack->words[rushhopper_record_start(who)] = record.crashed;
     return RUSHHOPPER_ACCEPTED;
 }
 

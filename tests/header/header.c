@@ -1,5 +1,5 @@
-/* Tries include/rushhopper.h on the library, as C99 and as C++: lengths, readers, words, the archive, and what the calls on a
- * struct keep.
+/* Tries include/rushhopper.h on the library, as C99 and as C++: lengths, readers, words, counts, the archive, and what the
+ * calls on a struct keep.
  * Writes each expectation that fails, and ends with 1 if any did.
  *
  *     gcc -std=c99 -Wall -Wextra -pedantic -I include tests/header/header.c FOLDER/librushhopper.a -o header
@@ -31,6 +31,15 @@ static void expect(int holds, const char *what, int line)
     }
 }
 
+/* The words of a record, by their places. */
+enum { CRASHED, ROUND, SLOT, PHASE, EMPTY, FAST, RECORD_WORDS };
+
+/* A replica's record where it stands: behind the count of known tags. */
+static uint16_t *words_of(struct rushhopper_replica who)
+{
+    return rack.words + 1 + RECORD_WORDS * who.number;
+}
+
 /* An opening is accepted, and refused as soon as any memory is one element shorter: the lengths are exactly those needed. */
 static void lengths_are_exact(struct rushhopper_memories *memories, struct rushhopper_numbers plan)
 {
@@ -55,9 +64,9 @@ static void lengths_are_exact(struct rushhopper_memories *memories, struct rushh
 static void bytes_are_those_of_the_readme(void)
 {
     static const struct { size_t n, slots, room, of_8, of_16, of_32; } rows[] = {
-        {3, 64, 256, 16154, 25882, 45338}, {5, 64, 256, 24874, 40746, 72490}, {15, 64, 256, 68474, 115066, 208250},
-        {3, 1024, 1024, 227354, 383002, 694298}, {5, 1024, 1024, 366634, 620586, 1128490},
-        {15, 1024, 1024, 1063034, 1808506, 3299450}
+        {3, 64, 256, 16166, 25894, 45350}, {5, 64, 256, 24894, 40766, 72510}, {15, 64, 256, 68534, 115126, 208310},
+        {3, 1024, 1024, 227366, 383014, 694310}, {5, 1024, 1024, 366654, 620606, 1128510},
+        {15, 1024, 1024, 1063094, 1808566, 3299510}
     };
     size_t i;
 
@@ -146,7 +155,7 @@ static void a_crash_marks_its_record(void)
 {
     EXPECT(rushhopper_crash_in(&rack, beyond) == RUSHHOPPER_NO_SUCH_REPLICA);
     EXPECT(rushhopper_crash_in(&rack, farthest) == RUSHHOPPER_NO_SUCH_REPLICA);
-    rack.words_length = 8;
+    rack.words_length = 12;
     EXPECT(rushhopper_crash_in(&rack, one) == RUSHHOPPER_SHORT_TABLE);
     EXPECT(rushhopper_crash_in(&rack, beyond) == RUSHHOPPER_NO_SUCH_REPLICA);
     rack.words_length = 0;
@@ -440,24 +449,29 @@ static void a_message_is_heard(void)
     EXPECT(rushhopper_hear_in(&rack, zero, sent) == RUSHHOPPER_ALREADY_HEARD);
 }
 
-/* Replicas 0 and 1 propose these tags, hear each other in every round of phase 1 and so close slot 0. */
-static void two_close_the_first_slot(uint64_t tag_of_zero, uint64_t tag_of_one)
+/* Replicas 0 and 1 propose what they have, hear each other in every round of phase 1 and so close the slot. */
+static void two_close(struct rushhopper_memories *memories, size_t slot)
 {
     size_t sort;
 
+    EXPECT(rushhopper_begin_in(memories, zero) == RUSHHOPPER_ACCEPTED);
+    EXPECT(rushhopper_begin_in(memories, one) == RUSHHOPPER_ACCEPTED);
+    for (sort = RUSHHOPPER_SORT_PROPOSAL; sort <= RUSHHOPPER_SORT_VOTE; sort++) {
+        const size_t phase = sort == RUSHHOPPER_SORT_PROPOSAL ? 0 : 1;
+        const struct rushhopper_message of_zero = {sort, {slot}, {phase}, zero}, of_one = {sort, {slot}, {phase}, one};
+        EXPECT(rushhopper_hear_in(memories, zero, of_one) == RUSHHOPPER_ACCEPTED);
+        EXPECT(rushhopper_hear_in(memories, one, of_zero) == RUSHHOPPER_ACCEPTED);
+        EXPECT(rushhopper_advance_in(memories, zero) == RUSHHOPPER_ACCEPTED);
+        EXPECT(rushhopper_advance_in(memories, one) == RUSHHOPPER_ACCEPTED);
+    }
+}
+
+static void two_close_the_first_slot(uint64_t tag_of_zero, uint64_t tag_of_one)
+{
     EXPECT(rushhopper_open_in(&rack, three, 0) == RUSHHOPPER_ACCEPTED);
     EXPECT(rushhopper_submit_in(&rack, zero, tag_of_zero) == RUSHHOPPER_ACCEPTED);
     EXPECT(rushhopper_submit_in(&rack, one, tag_of_one) == RUSHHOPPER_ACCEPTED);
-    EXPECT(rushhopper_begin_in(&rack, zero) == RUSHHOPPER_ACCEPTED);
-    EXPECT(rushhopper_begin_in(&rack, one) == RUSHHOPPER_ACCEPTED);
-    for (sort = RUSHHOPPER_SORT_PROPOSAL; sort <= RUSHHOPPER_SORT_VOTE; sort++) {
-        const size_t phase = sort == RUSHHOPPER_SORT_PROPOSAL ? 0 : 1;
-        const struct rushhopper_message of_zero = {sort, {0}, {phase}, zero}, of_one = {sort, {0}, {phase}, one};
-        EXPECT(rushhopper_hear_in(&rack, zero, of_one) == RUSHHOPPER_ACCEPTED);
-        EXPECT(rushhopper_hear_in(&rack, one, of_zero) == RUSHHOPPER_ACCEPTED);
-        EXPECT(rushhopper_advance_in(&rack, zero) == RUSHHOPPER_ACCEPTED);
-        EXPECT(rushhopper_advance_in(&rack, one) == RUSHHOPPER_ACCEPTED);
-    }
+    two_close(&rack, 0);
 }
 
 static void a_notice_is_refused(void)
@@ -542,22 +556,38 @@ static void expect_conducted(struct rushhopper_memories *memories, size_t steps,
     EXPECT(conducted.refusal == RUSHHOPPER_ACCEPTED && conducted.steps == steps && conducted.relays == relays);
 }
 
+/* Everything that is lent of the rack, as it was before calls that are to leave it so. */
+static struct {
+    uint16_t words[sizeof rack_words / sizeof rack_words[0]];
+    uint64_t orders[sizeof rack_orders / sizeof rack_orders[0]];
+    uint8_t ballots[sizeof rack_ballots], strip[sizeof rack_strip];
+} before;
+
+static void note_before(void)
+{
+    memcpy(before.words, rack_words, sizeof before.words);
+    memcpy(before.orders, rack_orders, sizeof before.orders);
+    memcpy(before.ballots, rack_ballots, sizeof before.ballots);
+    memcpy(before.strip, rack_strip, sizeof before.strip);
+}
+
+static int is_as_before(void)
+{
+    return memcmp(before.words, rack_words, sizeof before.words) == 0
+        && memcmp(before.orders, rack_orders, sizeof before.orders) == 0
+        && memcmp(before.ballots, rack_ballots, sizeof before.ballots) == 0
+        && memcmp(before.strip, rack_strip, sizeof before.strip) == 0;
+}
+
 /* The conductor is refused and leaves everything lent as it was. */
 static void expect_not_conducted(size_t refusal)
 {
-    static uint16_t words[sizeof rack_words / sizeof rack_words[0]];
-    static uint64_t orders[sizeof rack_orders / sizeof rack_orders[0]];
-    static uint8_t ballots[sizeof rack_ballots], strip[sizeof rack_strip];
     struct rushhopper_conducted conducted;
 
-    memcpy(words, rack_words, sizeof words);
-    memcpy(orders, rack_orders, sizeof orders);
-    memcpy(ballots, rack_ballots, sizeof ballots);
-    memcpy(strip, rack_strip, sizeof strip);
+    note_before();
     conducted = rushhopper_conduct_in(&rack);
     EXPECT(conducted.refusal == refusal && conducted.steps == 0 && conducted.relays == 0);
-    EXPECT(memcmp(words, rack_words, sizeof words) == 0 && memcmp(orders, rack_orders, sizeof orders) == 0);
-    EXPECT(memcmp(ballots, rack_ballots, sizeof ballots) == 0 && memcmp(strip, rack_strip, sizeof strip) == 0);
+    EXPECT(is_as_before());
 }
 
 /* Whether a replica is idle and has closed this many slots, the last of them with this entry. */
@@ -601,7 +631,7 @@ static void a_long_band_is_conducted(void)
         expect_conducted(&band, 30, 2);
     }
     for (who.number = 0; who.number < 3; who.number++) {
-        EXPECT(rushhopper_record_of(&band, who).slot == 300);
+        EXPECT(rushhopper_record_of(&band, who).slot == 300 && rushhopper_record_of(&band, who).fast == 300);
         for (slot.index = 0; slot.index < 300; slot.index++)
             EXPECT(rushhopper_entry_of(&band, who, slot) == slot.index + 1);
     }
@@ -708,16 +738,16 @@ static void a_notice_makes_a_rack_level(void)
  * slot only its notice is sent. */
 static void records_alone_keep_a_rack_from_being_level(void)
 {
-    uint16_t *const record = rack.words + 1 + 4 * two.number;
+    uint16_t *const record = words_of(two);
 
     EXPECT(rushhopper_open_in(&rack, three, 0) == RUSHHOPPER_ACCEPTED);
     EXPECT(rushhopper_submit_in(&rack, zero, 5) == RUSHHOPPER_ACCEPTED);
-    record[1] = RUSHHOPPER_ROUND_EXCHANGE;
+    record[ROUND] = RUSHHOPPER_ROUND_EXCHANGE;
     expect_not_conducted(RUSHHOPPER_NOT_LEVEL);
     EXPECT(rushhopper_crash_in(&rack, two) == RUSHHOPPER_ACCEPTED);
-    record[2] = 1;
+    record[SLOT] = 1;
     expect_not_conducted(RUSHHOPPER_NOT_LEVEL);
-    record[2] = 0;
+    record[SLOT] = 0;
     expect_conducted(&rack, 14, 1);
 }
 
@@ -733,6 +763,249 @@ static void refused_steps_are_passed_over(void)
     EXPECT(rushhopper_record_of(&rack, zero).round == RUSHHOPPER_ROUND_EXCHANGE);
     EXPECT(stands_behind(one, 1, 5) && stands_behind(two, 1, 5));
     expect_not_conducted(RUSHHOPPER_NOT_LEVEL);
+}
+
+/* Whether a replica's record counts so many closed, empty and fast slots, and its log has as many empty entries. */
+static int has_counts(const struct rushhopper_memories *memories, struct rushhopper_replica who, size_t closed, size_t empty,
+                      size_t fast)
+{
+    const struct rushhopper_record record = rushhopper_record_of(memories, who);
+    const struct rushhopper_log log = rushhopper_log_of(memories, who);
+    size_t slot, empties = 0;
+
+    for (slot = 0; slot < log.length; slot++)
+        empties += log.entries[slot] == 0;
+    return record.slot == closed && record.empty == empty && record.fast == fast && log.length == closed && empties == empty;
+}
+
+/* Slot 0 is closed as empty, by replica 2 on a notice; slot 1 by the conductor, in phase 1 at all of them. A crash keeps the
+ * counts, and the next opening, on the same memories, begins with 0. */
+static void counts_are_raised_as_slots_close(void)
+{
+    const struct rushhopper_message notice = {RUSHHOPPER_SORT_NOTICE, {0}, {0}, one};
+
+    two_close_the_first_slot(7, 9);
+    EXPECT(has_counts(&rack, zero, 1, 1, 1) && has_counts(&rack, one, 1, 1, 1));
+    EXPECT(rushhopper_hear_in(&rack, two, notice) == RUSHHOPPER_ACCEPTED);
+    EXPECT(has_counts(&rack, two, 0, 0, 0));
+    EXPECT(rushhopper_advance_in(&rack, two) == RUSHHOPPER_ACCEPTED);
+    EXPECT(has_counts(&rack, two, 1, 1, 0));
+    expect_conducted(&rack, 30, 2);
+    EXPECT(has_counts(&rack, zero, 2, 1, 2) && has_counts(&rack, one, 2, 1, 2) && has_counts(&rack, two, 2, 1, 1));
+    EXPECT(rushhopper_crash_in(&rack, one) == RUSHHOPPER_ACCEPTED);
+    EXPECT(rushhopper_record_of(&rack, one).crashed && has_counts(&rack, one, 2, 1, 2));
+    EXPECT(rushhopper_open_in(&rack, three, 0) == RUSHHOPPER_ACCEPTED);
+    EXPECT(has_counts(&rack, zero, 0, 0, 0) && has_counts(&rack, one, 0, 0, 0) && has_counts(&rack, two, 0, 0, 0));
+}
+
+/* Replica 2 has closed slot 0 in phase 1, and so its record still says when it closes slot 1 by a notice. */
+static void a_notice_after_phase_1_is_not_fast(void)
+{
+    const struct rushhopper_message notice = {RUSHHOPPER_SORT_NOTICE, {1}, {0}, one};
+
+    EXPECT(rushhopper_open_in(&rack, three, 0) == RUSHHOPPER_ACCEPTED);
+    EXPECT(rushhopper_submit_in(&rack, zero, 5) == RUSHHOPPER_ACCEPTED);
+    expect_conducted(&rack, 30, 2);
+    EXPECT(rushhopper_submit_in(&rack, zero, 7) == RUSHHOPPER_ACCEPTED);
+    EXPECT(rushhopper_relay_in(&rack, one, 7) == RUSHHOPPER_ACCEPTED);
+    two_close(&rack, 1);
+    EXPECT(rushhopper_record_of(&rack, two).phase == 1 && has_counts(&rack, two, 1, 0, 1));
+    EXPECT(rushhopper_hear_in(&rack, two, notice) == RUSHHOPPER_ACCEPTED);
+    EXPECT(rushhopper_advance_in(&rack, two) == RUSHHOPPER_ACCEPTED);
+    EXPECT(has_counts(&rack, zero, 2, 0, 2) && has_counts(&rack, one, 2, 0, 2) && has_counts(&rack, two, 2, 0, 1));
+}
+
+/* Whom replicas 0, 1 and 2 hear in a round. */
+static const size_t each_other[] = {1, 0, 0}, the_last[] = {2, 2, 0}, the_next[] = {1, 2, 0};
+
+/* In slot 0 each replica hears one, and then each advances. */
+static void all_hear(size_t sort, size_t phase, const size_t *heard)
+{
+    struct rushhopper_replica who;
+
+    for (who.number = 0; who.number < 3; who.number++) {
+        const struct rushhopper_message message = {sort, {0}, {phase}, {heard[who.number]}};
+        EXPECT(rushhopper_hear_in(&rack, who, message) == RUSHHOPPER_ACCEPTED);
+    }
+    for (who.number = 0; who.number < 3; who.number++)
+        EXPECT(rushhopper_advance_in(&rack, who) == RUSHHOPPER_ACCEPTED);
+}
+
+/* Replicas 0 and 1 propose 5 and send state 1, replica 2 proposes 9 and sends state 0. */
+static void three_begin(size_t start)
+{
+    EXPECT(rushhopper_open_in(&rack, three, start) == RUSHHOPPER_ACCEPTED);
+    EXPECT(rushhopper_submit_in(&rack, zero, 5) == RUSHHOPPER_ACCEPTED);
+    EXPECT(rushhopper_relay_in(&rack, one, 5) == RUSHHOPPER_ACCEPTED);
+    EXPECT(rushhopper_submit_in(&rack, two, 9) == RUSHHOPPER_ACCEPTED);
+    EXPECT(rushhopper_begin_in(&rack, zero) == RUSHHOPPER_ACCEPTED);
+    EXPECT(rushhopper_begin_in(&rack, one) == RUSHHOPPER_ACCEPTED);
+    EXPECT(rushhopper_begin_in(&rack, two) == RUSHHOPPER_ACCEPTED);
+    all_hear(RUSHHOPPER_SORT_PROPOSAL, 0, each_other);
+}
+
+/* Replicas 0 and 1 close slot 0 in phase 1; replica 2 has the outcome too, but not the order, and stays in the find round. */
+static void one_stays_in_find(void)
+{
+    const struct rushhopper_message state = {RUSHHOPPER_SORT_STATE, {0}, {1}, one};
+
+    three_begin(0);
+    EXPECT(rushhopper_hear_in(&rack, two, state) == RUSHHOPPER_ACCEPTED);
+    all_hear(RUSHHOPPER_SORT_STATE, 1, each_other);
+    all_hear(RUSHHOPPER_SORT_VOTE, 1, each_other);
+    EXPECT(has_counts(&rack, zero, 1, 0, 1) && has_counts(&rack, one, 1, 0, 1));
+    EXPECT(rushhopper_record_of(&rack, two).round == RUSHHOPPER_ROUND_FIND && has_counts(&rack, two, 0, 0, 0));
+}
+
+/* The outcome was reached in phase 1, and counts when the slot closes: if it closes with the order found, not by a notice. */
+static void an_order_found_is_fast(void)
+{
+    const struct rushhopper_message proposal = {RUSHHOPPER_SORT_PROPOSAL, {0}, {0}, one};
+    const struct rushhopper_message notice = {RUSHHOPPER_SORT_NOTICE, {0}, {0}, one};
+
+    one_stays_in_find();
+    EXPECT(rushhopper_hear_in(&rack, two, proposal) == RUSHHOPPER_ACCEPTED);
+    EXPECT(rushhopper_advance_in(&rack, two) == RUSHHOPPER_ACCEPTED);
+    EXPECT(has_counts(&rack, two, 1, 0, 1));
+    one_stays_in_find();
+    EXPECT(rushhopper_hear_in(&rack, two, proposal) == RUSHHOPPER_ACCEPTED);
+    EXPECT(rushhopper_hear_in(&rack, two, notice) == RUSHHOPPER_ACCEPTED);
+    EXPECT(rushhopper_advance_in(&rack, two) == RUSHHOPPER_ACCEPTED);
+    EXPECT(has_counts(&rack, two, 1, 0, 0));
+}
+
+/* Replica 1 has heard votes enough for the outcome, and then a notice: that goes ahead. */
+static void a_notice_with_an_outcome_heard_is_not_fast(void)
+{
+    const struct rushhopper_message of_zero = {RUSHHOPPER_SORT_VOTE, {0}, {1}, zero};
+    const struct rushhopper_message of_one = {RUSHHOPPER_SORT_VOTE, {0}, {1}, one};
+    const struct rushhopper_message notice = {RUSHHOPPER_SORT_NOTICE, {0}, {0}, zero};
+
+    three_begin(0);
+    all_hear(RUSHHOPPER_SORT_STATE, 1, each_other);
+    EXPECT(rushhopper_hear_in(&rack, zero, of_one) == RUSHHOPPER_ACCEPTED);
+    EXPECT(rushhopper_hear_in(&rack, one, of_zero) == RUSHHOPPER_ACCEPTED);
+    EXPECT(rushhopper_advance_in(&rack, zero) == RUSHHOPPER_ACCEPTED);
+    EXPECT(rushhopper_hear_in(&rack, one, notice) == RUSHHOPPER_ACCEPTED);
+    EXPECT(rushhopper_advance_in(&rack, one) == RUSHHOPPER_ACCEPTED);
+    EXPECT(has_counts(&rack, zero, 1, 0, 1) && has_counts(&rack, one, 1, 0, 0));
+}
+
+/* All vote `?` in phase 1 and go on with the coin: entry 0 of the coin table is 1, and replica 2 has to find the order; entry 9
+ * is 0, and leaves the slot empty. */
+static void an_outcome_of_phase_2_is_not_fast(size_t start, size_t empty)
+{
+    const struct rushhopper_message proposal = {RUSHHOPPER_SORT_PROPOSAL, {0}, {0}, one};
+
+    three_begin(start);
+    all_hear(RUSHHOPPER_SORT_STATE, 1, the_last);
+    all_hear(RUSHHOPPER_SORT_VOTE, 1, the_next);
+    all_hear(RUSHHOPPER_SORT_STATE, 2, the_next);
+    all_hear(RUSHHOPPER_SORT_VOTE, 2, the_next);
+    if (!empty) {
+        EXPECT(rushhopper_record_of(&rack, two).round == RUSHHOPPER_ROUND_FIND);
+        EXPECT(rushhopper_hear_in(&rack, two, proposal) == RUSHHOPPER_ACCEPTED);
+        EXPECT(rushhopper_advance_in(&rack, two) == RUSHHOPPER_ACCEPTED);
+    }
+    EXPECT(has_counts(&rack, zero, 1, empty, 0) && has_counts(&rack, one, 1, empty, 0) && has_counts(&rack, two, 1, empty, 0));
+}
+
+/* Both counts up to the closed slots of the longest band: the same two orders quarrel in every slot, and replica 2 is told. */
+static void a_whole_band_is_wasted(void)
+{
+    struct rushhopper_message notice = {RUSHHOPPER_SORT_NOTICE, {0}, {0}, one};
+
+    EXPECT(rushhopper_open_in(&band, long_band, 0) == RUSHHOPPER_ACCEPTED);
+    EXPECT(rushhopper_submit_in(&band, zero, 7) == RUSHHOPPER_ACCEPTED);
+    EXPECT(rushhopper_submit_in(&band, one, 9) == RUSHHOPPER_ACCEPTED);
+    for (notice.slot.index = 0; notice.slot.index < 1024; notice.slot.index++) {
+        two_close(&band, notice.slot.index);
+        EXPECT(rushhopper_hear_in(&band, two, notice) == RUSHHOPPER_ACCEPTED);
+        EXPECT(rushhopper_advance_in(&band, two) == RUSHHOPPER_ACCEPTED);
+    }
+    EXPECT(has_counts(&band, zero, 1024, 1024, 1024) && has_counts(&band, one, 1024, 1024, 1024));
+    EXPECT(has_counts(&band, two, 1024, 1024, 0));
+    EXPECT(rushhopper_conduct_in(&band).refusal == RUSHHOPPER_LOG_FULL);
+}
+
+/* Replicas 0 and 1 have closed slot 0 and replica 2 has not; then these counts stand in replica 1's record. */
+static void put_counts(uint16_t empty, uint16_t fast)
+{
+    two_close_the_first_slot(7, 9);
+    words_of(one)[EMPTY] = empty;
+    words_of(one)[FAST] = fast;
+}
+
+/* Whoever acts, and whatever else each would be refused with. A crash looks at its own record only. */
+static void counts_above_the_closed_slots_are_refused(uint16_t empty, uint16_t fast)
+{
+    const struct rushhopper_message notice = {RUSHHOPPER_SORT_NOTICE, {0}, {0}, one};
+
+    put_counts(empty, fast);
+    note_before();
+    EXPECT(rushhopper_submit_in(&rack, zero, 5) == RUSHHOPPER_SPOILED_RECORD);
+    EXPECT(rushhopper_relay_in(&rack, two, 7) == RUSHHOPPER_SPOILED_RECORD);
+    EXPECT(rushhopper_begin_in(&rack, zero) == RUSHHOPPER_SPOILED_RECORD);
+    EXPECT(rushhopper_hear_in(&rack, two, notice) == RUSHHOPPER_SPOILED_RECORD);
+    EXPECT(rushhopper_advance_in(&rack, two) == RUSHHOPPER_SPOILED_RECORD);
+    EXPECT(rushhopper_run_on_in(&rack, two).refusal == RUSHHOPPER_SPOILED_RECORD);
+    EXPECT(rushhopper_conduct_in(&rack).refusal == RUSHHOPPER_SPOILED_RECORD);
+    EXPECT(rushhopper_crash_in(&rack, one) == RUSHHOPPER_SPOILED_RECORD);
+    EXPECT(is_as_before());
+    EXPECT(rushhopper_crash_in(&rack, zero) == RUSHHOPPER_ACCEPTED);
+}
+
+/* The conductor's slot is not empty, and raises the other count from what it was. */
+static void counts_up_to_the_closed_slots_are_accepted(uint16_t empty, uint16_t fast)
+{
+    const struct rushhopper_message notice = {RUSHHOPPER_SORT_NOTICE, {0}, {0}, one};
+    struct rushhopper_record record;
+
+    put_counts(empty, fast);
+    EXPECT(rushhopper_submit_in(&rack, zero, 5) == RUSHHOPPER_ACCEPTED);
+    EXPECT(rushhopper_relay_in(&rack, two, 5) == RUSHHOPPER_ACCEPTED);
+    EXPECT(rushhopper_hear_in(&rack, two, notice) == RUSHHOPPER_ACCEPTED);
+    EXPECT(rushhopper_run_on_in(&rack, two).refusal == RUSHHOPPER_ACCEPTED);
+    expect_conducted(&rack, 30, 1);
+    EXPECT(rushhopper_crash_in(&rack, one) == RUSHHOPPER_ACCEPTED);
+    record = rushhopper_record_of(&rack, one);
+    EXPECT(record.crashed && record.slot == 2 && record.empty == empty && record.fast == fast + 1);
+}
+
+/* Replica 1's record ends with word 12: with it the count is judged, without it the record is not there. */
+static void counts_are_judged_where_the_record_is_there(void)
+{
+    EXPECT(rushhopper_open_in(&rack, three, 0) == RUSHHOPPER_ACCEPTED);
+    words_of(one)[FAST] = 1;
+    rack.words_length = 13;
+    EXPECT(rushhopper_submit_in(&rack, zero, 5) == RUSHHOPPER_SPOILED_RECORD);
+    EXPECT(rushhopper_crash_in(&rack, one) == RUSHHOPPER_SPOILED_RECORD);
+    rack.words_length = 12;
+    EXPECT(rushhopper_submit_in(&rack, zero, 5) == RUSHHOPPER_SHORT_TABLE);
+    EXPECT(rushhopper_crash_in(&rack, one) == RUSHHOPPER_SHORT_TABLE);
+    rack.words_length = rushhopper_words_length(rack.numbers);
+}
+
+/* The one record that a crash is lent, of a run of two slots; of a replica that is not of the run it may be any. */
+static void a_crash_keeps_the_counts(void)
+{
+    static const struct { uint16_t slot, empty, fast; size_t refusal; } rows[] = {
+        {0, 0, 0, RUSHHOPPER_ACCEPTED}, {1, 1, 0, RUSHHOPPER_ACCEPTED}, {1, 0, 1, RUSHHOPPER_ACCEPTED},
+        {2, 2, 2, RUSHHOPPER_ACCEPTED}, {0, 1, 0, RUSHHOPPER_SPOILED_RECORD}, {0, 0, 1, RUSHHOPPER_SPOILED_RECORD},
+        {1, 2, 1, RUSHHOPPER_SPOILED_RECORD}, {1, 1, 2, RUSHHOPPER_SPOILED_RECORD}, {2, 3, 0, RUSHHOPPER_SPOILED_RECORD},
+        {2, 65535, 2, RUSHHOPPER_SPOILED_RECORD}, {2, 2, 65535, RUSHHOPPER_SPOILED_RECORD}
+    };
+    size_t i;
+
+    EXPECT(sizeof(struct rushhopper_record) == RUSHHOPPER_RECORD_LENGTH * sizeof(uint16_t));
+    EXPECT(RUSHHOPPER_RECORD_LENGTH == RECORD_WORDS);
+    for (i = 0; i < sizeof rows / sizeof rows[0]; i++) {
+        struct rushhopper_record record = {0, RUSHHOPPER_ROUND_IDLE, rows[i].slot, 1, rows[i].empty, rows[i].fast};
+        EXPECT(rushhopper_crash(rack.numbers, beyond, &record) == RUSHHOPPER_NO_SUCH_REPLICA && record.crashed == 0);
+        EXPECT(rushhopper_crash(rack.numbers, one, &record) == rows[i].refusal);
+        EXPECT(record.crashed == (rows[i].refusal == RUSHHOPPER_ACCEPTED) && record.slot == rows[i].slot);
+        EXPECT(record.empty == rows[i].empty && record.fast == rows[i].fast);
+    }
 }
 
 /* What the archive takes, and one entry more. Outputs are filled with one byte first, to see what a call has touched. */
@@ -892,7 +1165,7 @@ static void logs_that_are_not_there_are_refused(void)
     expect_not_stored(farthest, 0, RUSHHOPPER_NO_SUCH_REPLICA);
     EXPECT(rushhopper_log_of(&rack, beyond).length == 0 && rushhopper_log_of(&rack, farthest).length == 0);
     expect_not_stored(two, 15, RUSHHOPPER_SHORT_TABLE);
-    rack.words_length = 12;
+    rack.words_length = 18;
     expect_not_stored(two, 16, RUSHHOPPER_SHORT_TABLE);
     EXPECT(rushhopper_store_log_in(&rack, one, written.stored, 16) == RUSHHOPPER_ACCEPTED);
     rack.words_length = rushhopper_words_length(rack.numbers);
@@ -901,7 +1174,7 @@ static void logs_that_are_not_there_are_refused(void)
     EXPECT(rushhopper_log_of(&rack, two).length == 0 && rushhopper_log_of(&rack, one).length == 2);
     rack.orders_length = 0;
     expect_not_stored(one, 16, RUSHHOPPER_SHORT_TABLE);
-    rack.words[1 + 4 * one.number + 2] = 3;
+    words_of(one)[SLOT] = 3;
     expect_not_stored(one, 0, RUSHHOPPER_SPOILED_RECORD);
     rack.orders_length = rushhopper_orders_length(rack.numbers);
     EXPECT(rushhopper_log_of(&rack, one).length == 0 && rushhopper_log_of(&rack, two).length == 2);
@@ -942,6 +1215,29 @@ static void step_files_are_played(void)
     a_player_takes_bands_by_its_numbers();
     no_report_fills_the_length_for_it();
     no_long_lines_fill_the_length_for_them();
+}
+
+static void records_have_counts(void)
+{
+    counts_are_raised_as_slots_close();
+    a_notice_after_phase_1_is_not_fast();
+    an_order_found_is_fast();
+    a_notice_with_an_outcome_heard_is_not_fast();
+    an_outcome_of_phase_2_is_not_fast(0, 0);
+    an_outcome_of_phase_2_is_not_fast(9, 1);
+    a_whole_band_is_wasted();
+    counts_above_the_closed_slots_are_refused(2, 0);
+    counts_above_the_closed_slots_are_refused(0, 2);
+    counts_above_the_closed_slots_are_refused(2, 1);
+    counts_above_the_closed_slots_are_refused(1, 2);
+    counts_above_the_closed_slots_are_refused(65535, 0);
+    counts_above_the_closed_slots_are_refused(0, 65535);
+    counts_up_to_the_closed_slots_are_accepted(0, 0);
+    counts_up_to_the_closed_slots_are_accepted(1, 0);
+    counts_up_to_the_closed_slots_are_accepted(0, 1);
+    counts_up_to_the_closed_slots_are_accepted(1, 1);
+    counts_are_judged_where_the_record_is_there();
+    a_crash_keeps_the_counts();
 }
 
 static void logs_are_archived(void)
@@ -987,6 +1283,7 @@ int main(void)
     a_notice_makes_a_rack_level();
     records_alone_keep_a_rack_from_being_level();
     refused_steps_are_passed_over();
+    records_have_counts();
     step_files_are_played();
     logs_are_archived();
     words_are_the_documents();
