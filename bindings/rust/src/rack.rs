@@ -31,17 +31,22 @@ pub enum Round {
     Find,
 }
 
-/// How a replica stands.
+/// How a replica stands. Both counts are raised when a slot closes.
 #[derive(Clone, Copy, Debug, PartialEq, Eq, Hash)]
 pub struct Record {
     pub crashed: bool,
     pub round: Round,
     /// The current slot: the number of slots that the replica has closed.
     pub slot: Slot,
+    /// How many of them are empty: wasted slots.
+    pub empty: usize,
+    /// Of how many of them it reached the outcome in phase 1 itself, with a find round after it or without. A slot closed by a
+    /// notice is not among them.
+    pub fast: usize,
 }
 
 impl Rack {
-    /// Opens a run on memories of its own: all replicas running and idle at slot 0.
+    /// Opens a run on memories of its own: all replicas running and idle at slot 0, their counts 0.
     pub fn open(plan: Plan) -> Result<Rack, Refusal> {
         let mut memories = Memories::for_runs_of(plan.numbers);
         let numbers = memories.open(plan)?;
@@ -106,7 +111,7 @@ impl Rack {
         self.memories.conduct(self.numbers)
     }
 
-    /// The replica stops for good. What it has sent can still be heard.
+    /// The replica stops for good. What it has sent can still be heard, and its record keeps its counts.
     pub fn crash(&mut self, who: Replica) -> Result<(), Refusal> {
         self.memories.crash(self.numbers, who)
     }
@@ -142,7 +147,13 @@ impl Rack {
             4 => Round::Find,
             _ => unreachable!("the library stores no other rounds"),
         };
-        Some(Record { crashed: words.crashed != 0, round, slot: Slot(words.slot.into()) })
+        Some(Record {
+            crashed: words.crashed != 0,
+            round,
+            slot: Slot(words.slot.into()),
+            empty: words.empty.into(),
+            fast: words.fast.into(),
+        })
     }
 
     /// The replicas of the run, in their order.

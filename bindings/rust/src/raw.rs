@@ -48,6 +48,8 @@ pub struct Words {
     pub round: u16,
     pub slot: u16,
     pub phase: u16,
+    pub empty: u16,
+    pub fast: u16,
 }
 
 /// The lent memories and the strip, in the layout of docs/TABLES.md.
@@ -61,6 +63,9 @@ pub struct Memories {
 
 /// Where the records start in the words: cell 0 is the count of known tags.
 const RECORDS: usize = 1;
+
+/// How many words a record has: those of `Words`, in its order.
+const RECORD_LENGTH: usize = 6;
 
 /// Declares functions that are lent the memories: the arguments before them, and the kind of strip.
 macro_rules! declare {
@@ -153,7 +158,7 @@ impl Memories {
     pub fn for_runs_of(most: Numbers) -> Memories {
         let numbers @ Numbers { n, slots, phases, .. } = most.of_memories();
         Memories {
-            words: vec![0; RECORDS + 4 * n + numbers.room + slots * (2 * phases + 2) * n],
+            words: vec![0; RECORDS + RECORD_LENGTH * n + numbers.room + slots * (2 * phases + 2) * n],
             orders: vec![0; numbers.logs_start() + n * slots],
             ballots: vec![0; slots * 2 * phases * n],
             strip: vec![0; slots * phases],
@@ -210,12 +215,12 @@ impl Memories {
     /// record for it; it is lent a blank one.
     pub fn crash(&mut self, numbers: Numbers, who: Replica) -> Result<(), Refusal> {
         let mut blank = Words::default();
-        let mut records = self.words[RECORDS..].chunks_exact_mut(4).take(numbers.n);
+        let mut records = self.words[RECORDS..].chunks_exact_mut(RECORD_LENGTH).take(numbers.n);
         let record = match records.nth(who.0) {
             Some(words) => words.as_mut_ptr().cast(),
             None => &mut blank,
         };
-        // Sound: `record` points to four words, as `Words` lays them out.
+        // Sound: `record` points to the words of one record, as `Words` lays them out.
         accepted(unsafe { rushhopper_crash(numbers, who, record) })
     }
 
@@ -232,8 +237,15 @@ impl Memories {
 
     /// The record of a replica of a run of these numbers.
     pub fn record(&self, numbers: Numbers, replica: Replica) -> Option<Words> {
-        let words = self.words[RECORDS..].chunks_exact(4).take(numbers.n).nth(replica.0)?;
-        Some(Words { crashed: words[0], round: words[1], slot: words[2], phase: words[3] })
+        let words = self.words[RECORDS..].chunks_exact(RECORD_LENGTH).take(numbers.n).nth(replica.0)?;
+        Some(Words {
+            crashed: words[0],
+            round: words[1],
+            slot: words[2],
+            phase: words[3],
+            empty: words[4],
+            fast: words[5],
+        })
     }
 
     /// The row of a replica's log, closed slots and others; for a replica of a run of these numbers.

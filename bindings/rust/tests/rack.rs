@@ -6,6 +6,9 @@ use rushhopper::{
 
 const FIRST: Slot = Slot(0);
 
+/// As an opening leaves every replica.
+const OPENED: Record = Record { crashed: false, round: Round::Idle, slot: FIRST, empty: 0, fast: 0 };
+
 fn plan(n: usize, f: usize, slots: usize) -> Plan {
     Plan { numbers: Numbers { n, f, slots, phases: 4, room: 4 }, start: 0 }
 }
@@ -52,6 +55,13 @@ fn left_behind() -> Rack {
         round(&mut rack, message, &[(0, 1), (1, 0), (2, 0)]);
     }
     rack
+}
+
+/// What a replica's record counts: its empty slots, as many as its log has, and those closed with an outcome of phase 1.
+fn counts(rack: &Rack, who: usize) -> (usize, usize) {
+    let record = rack.record(Replica(who)).expect("a replica of the rack");
+    assert_eq!(record.empty, rack.log(Replica(who)).iter().filter(|&&entry| entry == 0).count());
+    (record.empty, record.fast)
 }
 
 #[test]
@@ -103,7 +113,7 @@ fn a_busy_day_goes_on_past_phase_8() {
     let mut rack = proposed_by(Plan { numbers, start: 0 });
     round(&mut rack, Message::Proposal(FIRST), &[(0, 1), (1, 2), (2, 0)]);
     for phase in 1..=9 {
-        let busy = Record { crashed: false, round: Round::State(Phase(phase)), slot: FIRST };
+        let busy = Record { round: Round::State(Phase(phase)), ..OPENED };
         assert_eq!(rack.record(Replica(0)), Some(busy));
         round(&mut rack, state(phase), &[(0, 2), (1, 2), (2, 0)]);
         round(&mut rack, vote(phase), &[(0, 2), (1, 2), (2, 1)]);
@@ -173,7 +183,7 @@ fn a_crash_marks_its_own_record() {
     let mut rack = proposed();
     let others = [rack.record(Replica(0)), rack.record(Replica(2))];
     assert_eq!(rack.crash(Replica(1)), Ok(()));
-    let crashed = Record { crashed: true, round: Round::Exchange, slot: FIRST };
+    let crashed = Record { crashed: true, round: Round::Exchange, ..OPENED };
     assert_eq!(rack.record(Replica(1)), Some(crashed));
     assert_eq!([rack.record(Replica(0)), rack.record(Replica(2))], others);
     assert_eq!(rack.crash(Replica(1)), Err(Refusal::Crashed));
@@ -181,17 +191,23 @@ fn a_crash_marks_its_own_record() {
     assert_eq!(rack.hear(Replica(0), Replica(1), Message::Proposal(FIRST)), Ok(()));
 }
 
-#[test]
-fn the_find_round_waits_for_a_majority() {
+/// Replicas 0 and 1 have closed slot 0 with 5 in phase 1; 2 has reached the outcome too, and looks for the order.
+fn in_find() -> Rack {
     let mut rack = proposed();
     round(&mut rack, Message::Proposal(FIRST), &[(0, 1), (1, 0), (2, 0)]);
     assert_eq!(rack.hear(Replica(2), Replica(1), state(1)), Ok(()));
     round(&mut rack, state(1), &[(0, 1), (1, 0), (2, 0)]);
     round(&mut rack, vote(1), &[(0, 1), (1, 0), (2, 0)]);
+    rack
+}
+
+#[test]
+fn the_find_round_waits_for_a_majority() {
+    let mut rack = in_find();
     assert_eq!(rack.log(Replica(0)), [5]);
     assert_eq!((rack.entry(Replica(0), FIRST), rack.entry(Replica(0), Slot(1))), (Some(5), None));
     assert_eq!(rack.entry(Replica(2), FIRST), None);
-    let finding = Record { crashed: false, round: Round::Find, slot: FIRST };
+    let finding = Record { round: Round::Find, ..OPENED };
     assert_eq!((rack.record(Replica(2)), rack.log(Replica(2))), (Some(finding), &[][..]));
     assert_eq!(rack.advance(Replica(2)), Err(Refusal::TooFewHeard));
     assert_eq!(rack.hear(Replica(2), Replica(1), Message::Proposal(FIRST)), Ok(()));
@@ -201,10 +217,25 @@ fn the_find_round_waits_for_a_majority() {
     assert_eq!(rack.begin(Replica(2)), Ok(()));
 }
 
+/// The outcome of phase 1 counts when the slot closes, if it closes with the order found and not by a notice.
+#[test]
+fn an_order_found_is_fast() {
+    for (told, fast) in [(false, 1), (true, 0)] {
+        let mut rack = in_find();
+        assert_eq!((counts(&rack, 0), counts(&rack, 1), counts(&rack, 2)), ((0, 1), (0, 1), (0, 0)));
+        assert_eq!(rack.hear(Replica(2), Replica(1), Message::Proposal(FIRST)), Ok(()));
+        if told {
+            assert_eq!(rack.hear(Replica(2), Replica(1), Message::Notice(FIRST)), Ok(()));
+        }
+        assert_eq!(rack.advance(Replica(2)), Ok(()));
+        assert_eq!((rack.log(Replica(2)), counts(&rack, 2)), (&[5][..], (0, fast)));
+    }
+}
+
 #[test]
 fn a_replica_left_behind_closes_by_a_notice() {
     let mut rack = left_behind();
-    let waiting = Record { crashed: false, round: Round::State(Phase(2)), slot: FIRST };
+    let waiting = Record { round: Round::State(Phase(2)), ..OPENED };
     assert_eq!(rack.record(Replica(2)), Some(waiting));
     assert_eq!(rack.advance(Replica(2)), Err(Refusal::TooFewHeard));
     assert_eq!(rack.hear(Replica(2), Replica(0), state(2)), Err(Refusal::NotSent));
@@ -247,6 +278,7 @@ fn an_empty_slot_has_a_notice() {
             round(&mut rack, message, &[(0, 1), (1, 0)]);
         }
         assert_eq!(rack.crash(Replica(1)), Ok(()));
+        assert_eq!((counts(&rack, 0), counts(&rack, 1), counts(&rack, 2)), ((1, 1), (1, 1), (0, 0)));
         assert_eq!(rack.run_on(Replica(2)), Err(Refusal::NotBegun));
         assert_eq!(rack.hear(Replica(2), Replica(1), Message::Notice(FIRST)), Ok(()));
         if begins {
@@ -254,8 +286,31 @@ fn an_empty_slot_has_a_notice() {
             assert_eq!(rack.begin(Replica(2)), Ok(()));
         }
         assert_eq!(rack.run_on(Replica(2)), Ok(1));
-        assert_eq!(rack.log(Replica(2)), [0]);
+        assert_eq!((rack.log(Replica(2)), counts(&rack, 2)), (&[0][..], (1, 0)));
     }
+}
+
+/// Replica 2 has closed slot 0 in phase 1, and slot 1 by a notice: its record still has that phase then.
+#[test]
+fn a_notice_after_phase_1_is_not_fast() {
+    let mut rack = Rack::open(plan(3, 1, 2)).expect("a plan within the limits");
+    assert_eq!(rack.submit(Replica(0), 5), Ok(()));
+    for who in rack.replicas() {
+        assert_eq!(rack.record(who), Some(OPENED));
+    }
+    assert_eq!(rack.conduct(), conducted(30, 2));
+    let (second, phase) = (Slot(1), Phase(1));
+    for who in [0, 1] {
+        assert_eq!(rack.submit(Replica(who), 7), Ok(()));
+        assert_eq!(rack.begin(Replica(who)), Ok(()));
+    }
+    for message in [Message::Proposal(second), Message::State(second, phase), Message::Vote(second, phase)] {
+        round(&mut rack, message, &[(0, 1), (1, 0)]);
+    }
+    assert_eq!(rack.hear(Replica(2), Replica(0), Message::Notice(second)), Ok(()));
+    assert_eq!(rack.advance(Replica(2)), Ok(()));
+    assert_eq!(rack.log(Replica(2)), [5, 7]);
+    assert_eq!((counts(&rack, 0), counts(&rack, 1), counts(&rack, 2)), ((0, 2), (0, 2), (0, 1)));
 }
 
 /// All vote `?` in phase 1; entry 0 of the coin table is 1, entry 9 is 0.
@@ -266,7 +321,7 @@ fn the_strip_decides_a_quarrel() {
         assert_eq!(rack.fill_strip(start), Ok(()));
         round(&mut rack, Message::Proposal(FIRST), &[(0, 1), (1, 0), (2, 0)]);
         round(&mut rack, state(1), &[(0, 2), (1, 2), (2, 0)]);
-        let voting = Record { crashed: false, round: Round::Vote(Phase(1)), slot: FIRST };
+        let voting = Record { round: Round::Vote(Phase(1)), ..OPENED };
         assert_eq!(rack.record(Replica(0)), Some(voting));
         round(&mut rack, vote(1), &[(0, 1), (1, 2), (2, 0)]);
         let second = Record { round: Round::State(Phase(2)), ..voting };
@@ -275,7 +330,7 @@ fn the_strip_decides_a_quarrel() {
         assert_eq!(rack.hear(Replica(2), Replica(1), Message::Proposal(FIRST)), Ok(()));
         round(&mut rack, vote(2), &[(0, 1), (1, 2), (2, 0)]);
         for who in rack.replicas() {
-            assert_eq!(rack.log(who), [logged]);
+            assert_eq!((rack.log(who), counts(&rack, who.0)), (&[logged][..], (usize::from(logged == 0), 0)));
         }
     }
 }
@@ -333,7 +388,7 @@ fn the_smallest_pending_tag_is_conducted() {
     assert_eq!(rack.relay(Replica(1), 9), Ok(()));
     assert_eq!(rack.submit(Replica(2), 5), Ok(()));
     assert_eq!(rack.conduct(), conducted(30, 2));
-    let closed = Record { crashed: false, round: Round::Idle, slot: Slot(1) };
+    let closed = Record { slot: Slot(1), fast: 1, ..OPENED };
     for who in rack.replicas() {
         assert_eq!((rack.record(who), rack.log(who)), (Some(closed), &[5][..]));
     }
@@ -378,7 +433,7 @@ fn order(slot: usize) -> u64 {
 fn a_band_is_conducted_past_slot_255() {
     let rack = swept();
     let log: Vec<u64> = (0..=300).map(order).collect();
-    let closed = Record { crashed: false, round: Round::Idle, slot: Slot(301) };
+    let closed = Record { slot: Slot(301), fast: 301, ..OPENED };
     for who in rack.replicas() {
         assert_eq!((rack.record(who), rack.log(who)), (Some(closed), &log[..]));
         assert_eq!((rack.entry(who, Slot(300)), rack.entry(who, Slot(301))), (Some(1300), None));
