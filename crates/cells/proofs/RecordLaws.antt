@@ -13,7 +13,7 @@ use Rattle.model.specs.declared.Numbers.{Numbers}
 use Rattle.tables.specs.declared.Record.{Record}
 use Rattle.model.specs.Tests.{if, between}
 use Rattle.model.specs.Rules.{phase-in}
-use Rattle.model.proofs.Cases.{either, or-left}
+use Rattle.model.proofs.Cases.{either, or-left, or-right}
 use Rattle.tables.specs.Layout.{slot-end, known-cell, known-in, record-end, record-at}
 use Rattle.model.specs.Rack.{round-in}
 use Rattle.tables.specs.Checks.{misplaced, astray, overcounted, spoiled, spoiled-at}
@@ -99,14 +99,18 @@ module _ (k : Record) where
   unfolding overcounted
   over-fast h = rw (le-ltb (k .slot) (k .empty) h)
 
-  module _ (N : Numbers) {b : Bool} (is : b ≡ astray N k) where
-    pub spoiled-astray : b ≡ true → true ≡ spoiled N k
+  module _ (N : Numbers) {b : Bool} (is : b ≡ overcounted k) where
+    pub spoiled-counts : b ≡ true → true ≡ spoiled N k
     unfolding spoiled
-    spoiled-astray h = sym (or-left (astray N k) _ (sym is ∙ h))
+    spoiled-counts h = sym (or-right (astray N k) _ (sym is ∙ h))
 
-    pub spoiled-counts : {o : Bool} → b ≡ false → o ≡ overcounted k → o ≡ spoiled N k
+    pub spoiled-astray : {o : Bool} → b ≡ false → o ≡ astray N k → o ≡ spoiled N k
     unfolding spoiled
-    spoiled-counts h q = q ∙ ap (λ (b : Bool). b || overcounted k) (sym h ∙ is)
+    spoiled-astray h q = q ∙ sym (or-no (astray N k)) ∙ ap (λ (b : Bool). astray N k || b) (sym h ∙ is)
+      where
+        or-no : (b : Bool) → (b || false) ≡ b
+        or-no true = refl
+        or-no false = refl
 
 -- ---- the head
 

@@ -119,13 +119,14 @@ fn overcounted(k: Record) -> bool
     k.slot < k.fast
 }
 
+// The counts first: asked behind the rounds they would stand at two places, and the compiler would no longer join this with steps.
 pub fn record_spoiled(numbers: Numbers, k: Record) -> bool
     ensures { λ r. ⌜ r ≡ spoiled numbers k ⌝ }
 {
-    if astray(numbers, k) {
+    if overcounted(k) {
         return true;
     }
-    overcounted(k)
+    astray(numbers, k)
 }
 
 fn spoiled_record(numbers: Numbers, words: &[u16], c: usize) -> bool
