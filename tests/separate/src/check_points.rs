@@ -4,6 +4,7 @@
 mod archive;
 mod bands;
 mod conductor;
+mod counts;
 mod notices;
 mod phases;
 mod urgent;
@@ -44,8 +45,8 @@ fn heard_ballots(numbers: &Numbers, message: Message, words: &[u8]) -> Memories 
         memories.words[numbers.heard_cell(message, sender)] |= bit(0);
     }
     let round = if message.sort == Sort::State { STATE } else { VOTE };
-    memories
-        .set_record(0, Record { crashed: 0, round, slot: message.slot as u16, phase: message.phase as u16 });
+    let (slot, phase) = (message.slot as u16, message.phase as u16);
+    memories.set_record(0, Record { round, slot, phase, ..Record::default() });
     memories
 }
 
@@ -65,7 +66,7 @@ fn c1_one_replica_closes() {
     assert_eq!(rules::advance(&numbers, 0, &mut memories), Ok(Advanced::ClosedWith(7)));
     assert_eq!(
         (memories.log(&numbers, 0, 1), memories.record(0)),
-        (&[7][..], Some(Record { round: IDLE, slot: 1, phase: 1, crashed: 0 }))
+        (&[7][..], Some(Record { round: IDLE, slot: 1, phase: 1, fast: 1, ..Record::default() }))
     );
 }
 
@@ -119,7 +120,7 @@ fn c9_find() {
         memories.send_ballot(&numbers, votes, sender, ONE);
         memories.words[numbers.heard_cell(votes, sender)] |= bit(0);
     }
-    memories.set_record(0, Record { crashed: 0, round: VOTE, slot: 0, phase: 1 });
+    memories.set_record(0, Record { round: VOTE, phase: 1, ..Record::default() });
     assert_eq!(rules::advance(&numbers, 0, &mut memories), Ok(Advanced::EnteredFind));
     assert_eq!(rules::advance(&numbers, 0, &mut memories), Err(Refusal::TooFewHeard));
     assert_eq!(rules::hear(&numbers, 0, 2, 1, 0, 0, &mut memories), Ok(()));
@@ -181,28 +182,28 @@ fn short_words_are_judged_as_far_as_they_go() {
     assert_eq!(answer(&[]), Err(Refusal::ShortTable));
     assert_eq!(answer(&[4]), Err(Refusal::ShortTable));
     assert_eq!(answer(&[5]), Err(Refusal::SpoiledRecord));
-    assert_eq!(answer(&[0, 0, 9, 0]), Err(Refusal::ShortTable));
-    assert_eq!(answer(&[0, 0, 9, 0, 0]), Err(Refusal::SpoiledRecord));
-    assert_eq!(answer(&[0, 0, 0, 0, 0, 0, 9, 0]), Err(Refusal::ShortTable));
-    assert_eq!(answer(&[0, 0, 0, 0, 0, 0, 9, 0, 0]), Err(Refusal::SpoiledRecord));
+    assert_eq!(answer(&[0, 0, 9, 0, 0, 0]), Err(Refusal::ShortTable));
+    assert_eq!(answer(&[0, 0, 9, 0, 0, 0, 0]), Err(Refusal::SpoiledRecord));
+    assert_eq!(answer(&[0, 0, 0, 0, 0, 0, 0, 0, 9, 0, 0, 0]), Err(Refusal::ShortTable));
+    assert_eq!(answer(&[0, 0, 0, 0, 0, 0, 0, 0, 9, 0, 0, 0, 0]), Err(Refusal::SpoiledRecord));
 }
 
 /// Behind the records of three replicas stand the holders, which five replicas' numbers take for records.
 #[test]
 fn records_are_there_by_the_numbers_of_the_call() {
     let (numbers, mut memories) = opened(3, 1);
-    memories.words[13 + 1] = 9;
+    memories.words[19 + 1] = 9;
     assert_eq!(rules::begin(&numbers, 0, &mut memories), Err(Refusal::NothingPending));
     let more = Numbers { n: 5, ..numbers };
     assert_eq!(rules::begin(&more, 0, &mut memories), Err(Refusal::SpoiledRecord));
-    memories.words[13 + 1] = 0;
+    memories.words[19 + 1] = 0;
     assert_eq!(rules::begin(&more, 0, &mut memories), Err(Refusal::ShortTable));
 }
 
 #[test]
 fn a_crash_of_a_record_that_is_not_there() {
     let (numbers, mut memories) = opened(3, 1);
-    memories.words.truncate(8);
+    memories.words.truncate(12);
     let mut answer = |who| Call::Crash { who }.make(&numbers, &mut memories);
     assert_eq!(answer(1), Err(Refusal::ShortTable));
     assert_eq!(answer(3), Err(Refusal::NoSuchBench));

@@ -121,7 +121,7 @@ pub fn claim(
     }
     for who in 0..numbers.n {
         let record = before.record(who).unwrap_or_default();
-        let closed = Record { slot: slot as u16 + 1, phase: 1, ..record };
+        let closed = Record { slot: slot as u16 + 1, phase: 1, fast: record.fast + 1, ..record };
         let right = if lit.contains(&who) { closed } else { record };
         let log = after.log(numbers, who, right.slot.into());
         let logged = !lit.contains(&who) || log.last() == Some(&tag);

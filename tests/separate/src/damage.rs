@@ -1,14 +1,14 @@
 //! Memories that no run leaves behind: junk, bits of replicas that are not there, spoiled records, memories that are short.
 
 use crate::memories::{bit, Memories, Record, IDLE, ONE, STATE, UNDECIDED, VOTE, ZERO};
-use crate::numbers::{Message, Numbers, Sort, MOST_PHASES, MOST_SLOTS, RECORDS};
+use crate::numbers::{Message, Numbers, Sort, MOST_PHASES, MOST_SLOTS, RECORDS, RECORD_WORDS};
 use crate::orders::Orders;
 use crate::random::Random;
 use crate::rank::{first_ranked, URGENT};
 
 pub type Damage = fn(&mut Random, &Numbers, &mut Memories);
 
-pub const DAMAGES: [(&str, Damage); 42] = [
+pub const DAMAGES: [(&str, Damage); 47] = [
     ("mask bits of n and above, holders", |random, numbers, memories| {
         holders(numbers, memories).iter_mut().for_each(|mask| *mask |= bits_above(random, numbers));
     }),
@@ -48,7 +48,7 @@ pub const DAMAGES: [(&str, Damage); 42] = [
         scatter(random, logs(numbers, memories), |random| small_tag(random, 4));
         for _ in 0..numbers.n.div_ceil(2) {
             let slot = random.between(1, numbers.slots) as u16;
-            spoil(random, numbers, memories, |record| Record { round: IDLE, slot, ..record });
+            spoil(random, numbers, memories, |record| Record { round: IDLE, ..moved(record, slot) });
         }
     }),
     ("a replica far ahead", |random, numbers, memories| {
@@ -59,7 +59,7 @@ pub const DAMAGES: [(&str, Damage); 42] = [
     }),
     ("closed slots taken back", |random, numbers, memories| {
         scatter(random, logs(numbers, memories), |random| small_tag(random, 8));
-        spoil(random, numbers, memories, |record| Record { slot: 0, ..record });
+        spoil(random, numbers, memories, |record| moved(record, 0));
     }),
     ("proposals taken back", |random, numbers, memories| {
         scatter(random, proposals(numbers, memories), |_| 0);
@@ -93,7 +93,7 @@ pub const DAMAGES: [(&str, Damage); 42] = [
     ("any whole record", |random, numbers, memories| {
         let slot = random.below(numbers.slots) as u16;
         let (round, phase) = (random.below(5) as u16, random.between(1, numbers.phases) as u16);
-        spoil(random, numbers, memories, |record| Record { round, slot, phase, ..record });
+        spoil(random, numbers, memories, |record| Record { round, phase, ..moved(record, slot) });
     }),
     ("crashed by another word than 1", |random, numbers, memories| {
         let crashed = random.pick(&[2, 256, u16::MAX]);
@@ -117,32 +117,54 @@ pub const DAMAGES: [(&str, Damage); 42] = [
     }),
     ("a phase out of range, state", |random, numbers, memories| {
         let phase = random.pick(&[0, numbers.phases as u16 + 1, u16::MAX]);
-        spoil(random, numbers, memories, |record| Record { round: STATE, slot: 0, phase, ..record });
+        spoil(random, numbers, memories, |record| Record { round: STATE, phase, ..moved(record, 0) });
     }),
     ("a phase out of range, vote", |random, numbers, memories| {
         let phase = random.pick(&[0, numbers.phases as u16 + 1, u16::MAX]);
-        spoil(random, numbers, memories, |record| Record { round: VOTE, slot: 0, phase, ..record });
+        spoil(random, numbers, memories, |record| Record { round: VOTE, phase, ..moved(record, 0) });
     }),
     ("a phase out of range in another round", |random, numbers, memories| {
         let (round, phase) =
-            (random.pick(&[0, 1, 4]), random.pick(&[0, numbers.phases as u16 + 1, u16::MAX]));
-        spoil(random, numbers, memories, |record| Record { round, slot: 0, phase, ..record });
+            (random.pick(&[0, 1, 4]), random.pick(&[0, numbers.phases as u16 + 1, 257, u16::MAX]));
+        spoil(random, numbers, memories, |record| Record { round, phase, ..moved(record, 0) });
+    }),
+    ("a count at the closed slots", |random, numbers, memories| {
+        recount(random, numbers, memories, 0);
+    }),
+    ("a count one above the closed slots", |random, numbers, memories| {
+        recount(random, numbers, memories, 1);
+    }),
+    ("a count far above the closed slots", |random, numbers, memories| {
+        let above = random.pick(&[2, 255, 256, u16::MAX]);
+        recount(random, numbers, memories, above);
+    }),
+    ("other counts, none above the closed slots", |random, numbers, memories| {
+        for replica in 0..numbers.n {
+            let Some(record) = memories.record(replica) else { continue };
+            let [empty, fast] = [(); 2].map(|()| random.between(0, record.slot.into()) as u16);
+            memories.set_record(replica, Record { empty, fast, ..record });
+        }
+    }),
+    ("a count above the closed slots in short words", |random, numbers, memories| {
+        let replica = recount(random, numbers, memories, 1);
+        // the record is there, or but for a word or two
+        memories.words.truncate(RECORDS + RECORD_WORDS * (replica + 1) - random.below(3));
     }),
     ("a spoiled record in short words", |random, numbers, memories| {
         let whole = (numbers.n - 1).min(random.below(4));
-        memories.words.resize(RECORDS + 4 * whole + random.below(5), 0);
+        memories.words.resize(RECORDS + RECORD_WORDS * whole + random.between(0, RECORD_WORDS), 0);
         memories.words[RECORDS..].fill_with(|| random.below(7) as u16);
     }),
     ("a spoiled record of no replica", |_, numbers, memories| {
         let behind = numbers.holders_start();
-        section(&mut memories.words, behind, behind + 4).fill(u16::MAX);
+        section(&mut memories.words, behind, behind + RECORD_WORDS).fill(u16::MAX);
     }),
     ("junk in all memories", |random, _, memories| junk(random, memories)),
     ("short words", |random, numbers, memories| {
         memories.words.truncate(shorter(random, numbers.lengths().words));
     }),
     ("short words, records missing", |random, numbers, memories| {
-        memories.words.truncate(RECORDS + random.below(4 * numbers.n));
+        memories.words.truncate(RECORDS + random.below(RECORD_WORDS * numbers.n));
     }),
     ("short words, none at all", |_, _, memories| memories.words.clear()),
     ("short orders", |random, numbers, memories| {
@@ -157,7 +179,7 @@ pub const DAMAGES: [(&str, Damage); 42] = [
 ];
 
 /// Damages of level racks, which fit their numbers: what the conductor must see, and what it must pass over.
-pub const LEVEL_DAMAGES: [(&str, Damage); 13] = [
+pub const LEVEL_DAMAGES: [(&str, Damage); 15] = [
     ("a message of the level slot", |random, numbers, memories| {
         send_one(random, numbers, memories, level_slot(numbers, memories));
     }),
@@ -184,15 +206,15 @@ pub const LEVEL_DAMAGES: [(&str, Damage); 13] = [
     }),
     ("one ahead", |random, numbers, memories| {
         let slot = random.between(level_slot(numbers, memories), numbers.slots) as u16;
-        spoil(random, numbers, memories, |record| Record { round: IDLE, slot, ..record });
+        spoil(random, numbers, memories, |record| Record { round: IDLE, ..moved(record, slot) });
     }),
     ("a crashed one ahead", |random, numbers, memories| {
         let slot = random.between(level_slot(numbers, memories), numbers.slots) as u16;
-        spoil(random, numbers, memories, |record| Record { crashed: 1, round: IDLE, slot, ..record });
+        spoil(random, numbers, memories, |record| Record { crashed: 1, round: IDLE, ..moved(record, slot) });
     }),
     ("one behind", |random, numbers, memories| {
         let slot = level_slot(numbers, memories).saturating_sub(1) as u16;
-        spoil(random, numbers, memories, |record| Record { slot, ..record });
+        spoil(random, numbers, memories, |record| moved(record, slot));
     }),
     ("all at the slot count", |_, numbers, memories| {
         for replica in 0..numbers.n {
@@ -213,6 +235,15 @@ pub const LEVEL_DAMAGES: [(&str, Damage); 13] = [
             if random.one_in(3) {
                 memories.orders[numbers.log_cell(who, random.below(slot))] = tag;
             }
+        }
+    }),
+    ("a count above the closed slots, level", |random, numbers, memories| {
+        recount(random, numbers, memories, 1);
+    }),
+    ("all counts at the closed slots", |_, numbers, memories| {
+        for replica in 0..numbers.n {
+            let record = memories.record(replica).unwrap_or_default();
+            memories.set_record(replica, Record { empty: record.slot, fast: record.slot, ..record });
         }
     }),
     ("each tag held by one", |random, numbers, memories| {
@@ -293,12 +324,39 @@ fn above_room(random: &mut Random, numbers: &Numbers) -> usize {
 pub fn any_record(random: &mut Random, numbers: &Numbers) -> Record {
     let slots = numbers.slots.min(MOST_SLOTS);
     let phases = numbers.phases.min(MOST_PHASES);
+    let slot = random.pick(&[0, slots.saturating_sub(1), slots, slots + 1]) as u16;
     Record {
         crashed: random.pick(&[0, 0, 0, 1, 2, u16::MAX]),
         round: random.below(6) as u16,
-        slot: random.pick(&[0, slots.saturating_sub(1), slots, slots + 1]) as u16,
+        slot,
         phase: random.pick(&[0, 1, phases, phases + 1]) as u16,
+        empty: any_count(random, slot),
+        fast: any_count(random, slot),
     }
+}
+
+/// Mostly none above the closed slots.
+fn any_count(random: &mut Random, slot: u16) -> u16 {
+    if random.one_in(5) {
+        random.pick(&[slot + 1, slot + 1, slot + 256, u16::MAX])
+    } else {
+        random.pick(&[0, slot / 2, slot, slot])
+    }
+}
+
+/// The record in another slot, with counts that are not above it.
+fn moved(record: Record, slot: u16) -> Record {
+    Record { slot, empty: record.empty.min(slot), fast: record.fast.min(slot), ..record }
+}
+
+/// Sets one of the counts of one replica, or both, so far above its closed slots. Answers which replica.
+fn recount(random: &mut Random, numbers: &Numbers, memories: &mut Memories, above: u16) -> usize {
+    let counts = random.pick(&[[true, false], [false, true], [true, true]]);
+    spoil(random, numbers, memories, |record| {
+        let count = record.slot.saturating_add(above);
+        let [empty, fast] = counts.map(|is_set| is_set.then_some(count));
+        Record { empty: empty.unwrap_or(record.empty), fast: fast.unwrap_or(record.fast), ..record }
+    })
 }
 
 fn bits_above(random: &mut Random, numbers: &Numbers) -> u16 {
@@ -326,7 +384,7 @@ fn send_one(random: &mut Random, numbers: &Numbers, memories: &mut Memories, slo
         }
         Sort::Notice => {
             let record = memories.record(sender).unwrap_or_default();
-            memories.set_record(sender, Record { round: IDLE, slot: slot as u16 + 1, ..record });
+            memories.set_record(sender, Record { round: IDLE, ..moved(record, slot as u16 + 1) });
         }
     }
 }
@@ -347,12 +405,18 @@ fn scatter<T>(random: &mut Random, cells: &mut [T], draw: fn(&mut Random) -> T) 
     }
 }
 
-/// Changes the record of one replica, if it is there.
-fn spoil(random: &mut Random, numbers: &Numbers, memories: &mut Memories, change: impl Fn(Record) -> Record) {
+/// Changes the record of one replica, if it is there. Answers which replica.
+fn spoil(
+    random: &mut Random,
+    numbers: &Numbers,
+    memories: &mut Memories,
+    change: impl Fn(Record) -> Record,
+) -> usize {
     let replica = random.below(numbers.n);
     if let Some(record) = memories.record(replica) {
         memories.set_record(replica, change(record));
     }
+    replica
 }
 
 /// A length below the one needed, mostly by 1.

@@ -38,7 +38,7 @@ pub fn fill(numbers: &Numbers, known: &[Known], entries: &[u64], memories: &mut 
         close(numbers, slot, entry, memories);
     }
     let (slot, phase) = (entries.len() as u16, u16::from(!entries.is_empty()));
-    let record = Record { crashed: 0, round: IDLE, slot, phase };
+    let record = Record { round: IDLE, slot, phase, fast: slot, ..Record::default() };
     (0..numbers.n).for_each(|who| memories.set_record(who, record));
 }
 

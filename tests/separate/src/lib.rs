@@ -1,4 +1,4 @@
-//! Document 01's order log with requests 1 to 7 of document 02, written from the documents and apart from the library, and
+//! Document 01's order log with requests 1 to 8 of document 02, written from the documents and apart from the library, and
 //! what compares the two: by whole step files (the program `sessions`), by direct calls on ordinary and damaged memories
 //! (`calls`), by logs for the archive (`archives`), and in time (`bench`).
 
@@ -18,6 +18,7 @@ pub mod coin;
 pub mod compare;
 pub mod conducted;
 pub mod conductor;
+pub mod counted;
 pub mod damage;
 pub mod filled;
 #[cfg(feature = "library")]

@@ -1,6 +1,6 @@
 //! The lent memories, in the layout of docs/TABLES.md, and how the rules read them.
 
-use crate::numbers::{Message, Numbers, Sort, RECORDS};
+use crate::numbers::{Message, Numbers, Sort, RECORDS, RECORD_WORDS};
 use crate::rank::first_ranked;
 
 pub const IDLE: u16 = 0;
@@ -25,7 +25,7 @@ pub struct Memories {
     pub strip: Vec<u8>,
 }
 
-/// Four of the words; laid out as the header's `rushhopper_record`.
+/// Six of the words; laid out as the header's `rushhopper_record`.
 #[repr(C)]
 #[derive(Clone, Copy, Debug, Default, PartialEq, Eq)]
 pub struct Record {
@@ -33,6 +33,10 @@ pub struct Record {
     pub round: u16,
     pub slot: u16,
     pub phase: u16,
+    /// "empty slots closed"
+    pub empty: u16,
+    /// "closed slots whose outcome it reached in phase 1 itself"
+    pub fast: u16,
 }
 
 /// How many states or votes of each word a replica has heard.
@@ -46,9 +50,9 @@ pub fn bit(replica: usize) -> u16 {
     1 << replica
 }
 
-impl From<[u16; 4]> for Record {
-    fn from([crashed, round, slot, phase]: [u16; 4]) -> Record {
-        Record { crashed, round, slot, phase }
+impl From<[u16; RECORD_WORDS]> for Record {
+    fn from([crashed, round, slot, phase, empty, fast]: [u16; RECORD_WORDS]) -> Record {
+        Record { crashed, round, slot, phase, empty, fast }
     }
 }
 
@@ -60,6 +64,12 @@ impl Record {
             || slot > numbers.slots
             || (slot == numbers.slots && self.round != IDLE)
             || (matches!(self.round, STATE | VOTE) && !(1..=numbers.phases).contains(&phase))
+            || self.counts_exceed()
+    }
+
+    /// "3 also when either count exceeds the closed slots."
+    pub fn counts_exceed(&self) -> bool {
+        self.empty > self.slot || self.fast > self.slot
     }
 
     /// The messages that its round waits for; proposals also when idle.
@@ -93,7 +103,7 @@ impl Memories {
             && self.strip.len() >= needs.strip
     }
 
-    /// The part of refusal 3 that the memories decide. A record is there if all its four words are, so that records
+    /// The part of refusal 3 that the memories decide. A record is there if all its six words are, so that records
     /// are judged in a short memory too.
     pub fn are_spoiled(&self, numbers: &Numbers) -> bool {
         let mut records = self.records().iter().take(numbers.n);
@@ -114,7 +124,7 @@ impl Memories {
     }
 
     /// As many as the words have room for, whatever the run's numbers: behind the run's own they are other cells.
-    fn records(&self) -> &[[u16; 4]] {
+    fn records(&self) -> &[[u16; RECORD_WORDS]] {
         self.words.get(RECORDS..).unwrap_or_default().as_chunks().0
     }
 
@@ -135,8 +145,8 @@ impl Memories {
     }
 
     pub fn set_record(&mut self, replica: usize, record: Record) {
-        let words = [record.crashed, record.round, record.slot, record.phase];
-        self.words[RECORDS + 4 * replica..][..4].copy_from_slice(&words);
+        let words = [record.crashed, record.round, record.slot, record.phase, record.empty, record.fast];
+        self.words[RECORDS + RECORD_WORDS * replica..][..RECORD_WORDS].copy_from_slice(&words);
     }
 
     fn known_tags(&self) -> &[u64] {

@@ -28,6 +28,8 @@ pub const LARGEST: Numbers =
 
 /// Where the records start in the words: cell 0 is the count of known tags.
 pub const RECORDS: usize = 1;
+/// How many words a record has.
+pub const RECORD_WORDS: usize = 6;
 
 /// How many elements of each memory, and of the strip, a run needs.
 pub struct Lengths {
@@ -89,7 +91,7 @@ impl Numbers {
 
     /// In the words, behind the records.
     pub fn holders_start(&self) -> usize {
-        RECORDS + 4 * self.n
+        RECORDS + RECORD_WORDS * self.n
     }
 
     /// In the words, behind the holders.
@@ -181,23 +183,23 @@ mod tests {
 
     const NUMBERS: Numbers = Numbers { n: 3, f: 1, slots: 2, phases: 4, room: 5 };
 
-    /// Counted out by hand: 1 + 12 + 5 + 60 words, 5 + 6 + 6 orders, 48 ballots, 8 coins.
+    /// Counted out by hand: 1 + 18 + 5 + 60 words, 5 + 6 + 6 orders, 48 ballots, 8 coins.
     #[test]
     fn lengths_of_a_small_run() {
         let Lengths { words, orders, ballots, strip } = NUMBERS.lengths();
-        assert_eq!((words, orders, ballots, strip), (78, 17, 48, 8));
+        assert_eq!((words, orders, ballots, strip), (84, 17, 48, 8));
     }
 
     #[test]
     fn sections_stand_one_behind_the_other() {
         let message = |sort, slot, phase| Message { sort, slot, phase };
         let (state, vote) = (message(Sort::State, 0, 1), message(Sort::Vote, 1, 4));
-        assert_eq!((NUMBERS.holder_cell(0), NUMBERS.holder_cell(4)), (13, 17));
-        assert_eq!(NUMBERS.heard_cell(message(Sort::Proposal, 0, 0), 0), 18);
-        assert_eq!(NUMBERS.heard_cell(message(Sort::Notice, 0, 0), 0), 21);
-        assert_eq!(NUMBERS.heard_cell(message(Sort::Notice, 1, 0), 2), 53);
-        assert_eq!((NUMBERS.heard_cell(state, 0), NUMBERS.ballot_cell(state, 0)), (24, 0));
-        assert_eq!((NUMBERS.heard_cell(vote, 2), NUMBERS.ballot_cell(vote, 2)), (77, 47));
+        assert_eq!((NUMBERS.holder_cell(0), NUMBERS.holder_cell(4)), (19, 23));
+        assert_eq!(NUMBERS.heard_cell(message(Sort::Proposal, 0, 0), 0), 24);
+        assert_eq!(NUMBERS.heard_cell(message(Sort::Notice, 0, 0), 0), 27);
+        assert_eq!(NUMBERS.heard_cell(message(Sort::Notice, 1, 0), 2), 59);
+        assert_eq!((NUMBERS.heard_cell(state, 0), NUMBERS.ballot_cell(state, 0)), (30, 0));
+        assert_eq!((NUMBERS.heard_cell(vote, 2), NUMBERS.ballot_cell(vote, 2)), (83, 47));
         assert_eq!((NUMBERS.proposal_cell(0, 0), NUMBERS.proposal_cell(1, 2)), (5, 10));
         assert_eq!((NUMBERS.log_cell(0, 0), NUMBERS.log_cell(2, 1)), (11, 16));
         assert_eq!((NUMBERS.coin_cell(0, 1), NUMBERS.coin_cell(1, 4)), (0, 7));

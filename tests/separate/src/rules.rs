@@ -1,4 +1,4 @@
-//! The calls of document 01 over lent memories, with requests 1 and 2 of document 02; `conductor` has request 3's, and `rank`
+//! The calls of document 01 over lent memories, with requests 1, 2 and 8 of document 02; `conductor` has request 3's, and `rank`
 //! says which tag request 5 takes. A refused call changes nothing.
 
 use crate::coin::{self, PATTERN};
@@ -292,7 +292,7 @@ fn count_votes(
         return Err(Refusal::TooFewHeard);
     }
     if votes.zeros > numbers.f {
-        close(numbers, who, record, 0, memories);
+        close_by_outcome(numbers, who, record, 0, memories);
         return Ok(Advanced::ClosedEmpty);
     }
     if votes.ones > numbers.f {
@@ -311,7 +311,7 @@ fn count_votes(
 fn find(numbers: &Numbers, who: usize, record: Record, memories: &mut Memories) -> Result<Advanced, Refusal> {
     let slot = usize::from(record.slot);
     let tag = majority_tag(numbers, who, slot, memories).ok_or(Refusal::TooFewHeard)?;
-    close(numbers, who, record, tag, memories);
+    close_by_outcome(numbers, who, record, tag, memories);
     Ok(Advanced::Found(tag))
 }
 
@@ -319,7 +319,7 @@ fn find(numbers: &Numbers, who: usize, record: Record, memories: &mut Memories) 
 fn close_with_majority(numbers: &Numbers, who: usize, record: Record, memories: &mut Memories) -> Advanced {
     match majority_tag(numbers, who, usize::from(record.slot), memories) {
         Some(tag) => {
-            close(numbers, who, record, tag, memories);
+            close_by_outcome(numbers, who, record, tag, memories);
             Advanced::ClosedWith(tag)
         }
         None => {
@@ -349,10 +349,18 @@ fn send_state(numbers: &Numbers, who: usize, record: Record, state: u8, memories
     memories.set_record(who, Record { round: STATE, ..record });
 }
 
-/// "A controller that closes a slot now sends its entry". The phase stays in the record.
+/// Counts a slot "whose outcome it reached in phase 1 itself (a slot closed by notice isn't one)". The find round keeps the
+/// phase in which the outcome came.
+fn close_by_outcome(numbers: &Numbers, who: usize, record: Record, entry: u64, memories: &mut Memories) {
+    let fast = record.fast + u16::from(record.phase == 1);
+    close(numbers, who, Record { fast, ..record }, entry, memories);
+}
+
+/// "A controller that closes a slot now sends its entry", and counts an empty one. The phase stays in the record.
 fn close(numbers: &Numbers, who: usize, record: Record, entry: u64, memories: &mut Memories) {
+    let empty = record.empty + u16::from(entry == 0);
     memories.send_notice(numbers, usize::from(record.slot), who, entry);
-    memories.set_record(who, Record { round: IDLE, slot: record.slot + 1, ..record });
+    memories.set_record(who, Record { round: IDLE, slot: record.slot + 1, empty, ..record });
 }
 
 /// "A crash step is lent one controller's record and darkens it there." One of a number n or more may be lent any

@@ -40,6 +40,11 @@ impl Script {
         script
     }
 
+    /// Opens the run anew.
+    pub fn reopen(&mut self) {
+        self.step(Call::Open { plan: self.numbers, start: 0 });
+    }
+
     /// Goes on with a run, wherever it stands.
     pub fn going_on(numbers: &Numbers, memories: Memories) -> Script {
         Script { numbers: *numbers, memories, calls: Vec::new(), refused: None }

@@ -48,11 +48,11 @@ fn of_a_strip_too() {
     assert_eq!(coin::fill_strip(1024, 1, 0, &mut strip[..1023]), Err(Refusal::ShortTable));
 }
 
-/// The largest run has its cells: 1,014,845 words.
+/// The largest run has its cells: 1,014,875 words.
 #[test]
 fn the_largest_run_opens() {
     let mut memories = Memories::of_run(&LARGEST);
-    assert_eq!((memories.words.len(), memories.orders.len()), (1_014_845, 31_744));
+    assert_eq!((memories.words.len(), memories.orders.len()), (1_014_875, 31_744));
     assert_eq!((memories.ballots.len(), memories.strip.len()), (983_040, 32_768));
     assert_eq!(rules::open(&LARGEST, 510, &mut memories), Ok(LARGEST));
     memories.words.pop();

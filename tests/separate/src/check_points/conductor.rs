@@ -44,7 +44,7 @@ fn thirty_for_three_lit() {
     let mut script = run_of(3, 1, &[(7, 0)]);
     assert_eq!(conducted(&mut script), counts(30, 2));
     for who in 0..3 {
-        let record = Record { crashed: 0, round: IDLE, slot: 1, phase: 1 };
+        let record = Record { round: IDLE, slot: 1, phase: 1, fast: 1, ..Record::default() };
         assert_eq!((log(&script, who), script.memories.record(who)), (&[7][..], Some(record)));
     }
 }

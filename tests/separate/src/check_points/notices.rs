@@ -63,7 +63,7 @@ fn hear_notice(
 #[test]
 fn the_third_of_three_is_not_left_behind() {
     let (numbers, mut memories) = left_in_phase_2();
-    let record = Record { crashed: 0, round: STATE, slot: 0, phase: 2 };
+    let record = Record { round: STATE, phase: 2, ..Record::default() };
     assert_eq!(memories.record(2), Some(record));
     accept(&numbers, &mut memories, &[hear(2, 1, 1), hear(2, 1, 2), hear(2, 1, 3)]);
     assert_eq!(rules::advance(&numbers, 2, &mut memories), Err(Refusal::TooFewHeard));
@@ -218,7 +218,7 @@ fn what_a_close_by_notice_stores() {
     assert_eq!(rules::advance(&numbers, 2, &mut after), Ok(by_notice));
     before.words[own] = bit(2);
     before.orders[numbers.log_cell(2, 0)] = 5;
-    before.set_record(2, Record { crashed: 0, round: IDLE, slot: 1, phase: 2 });
+    before.set_record(2, Record { round: IDLE, slot: 1, phase: 2, ..Record::default() });
     assert_eq!(before, after);
 }
 
