@@ -348,16 +348,22 @@ pub fn drawn_on(random: &mut Random, script: Script, steps: usize) -> Vec<u8> {
 }
 
 /// A session in which a majority closes slots and leaves the last replica behind, in any round; this one then hears
-/// notices. Drawn steps seldom leave a replica in the find round.
+/// notices. Drawn steps seldom leave a replica in the find round. Half the time all close a slot together before.
 pub fn left_behind_session(random: &mut Random, most: &Numbers) -> Vec<u8> {
     let n = random.between(3, most.n);
     let (slots, phases) = (random.between(1, most.slots.min(4)), random.between(1, most.phases.min(4)));
-    let mut script = Script::open(&Numbers { n, f: (n - 1) / 2, slots, phases, room: slots + 1 });
+    let room = most.room.min(slots + 1 + n);
+    let mut script = Script::open(&Numbers { n, f: (n - 1) / 2, slots, phases, room });
+    let together = usize::from(slots > 1 && random.one_in(2));
+    (0..together).for_each(|_| close_together(random, &mut script));
     script.share_in_camps(random.pick(&[[1, 2], [1, URGENT + 1], [URGENT + 1, 1], [URGENT, u64::MAX]]));
-    script.leave_in(random.between(usize::from(IDLE), usize::from(FIND)) as u16);
-    let camp = script.camp();
+    let (round, camp) = (random.between(usize::from(IDLE), usize::from(FIND)) as u16, script.camp());
+    script.leave_in(round);
     script.go_on(camp.clone(), &[Sort::Vote]);
-    for further in 1..random.between(1, slots) {
+    if random.one_in(2) {
+        catch_up(random, &mut script, round);
+    }
+    for further in 1..random.between(1, slots - together) {
         script.share(order(further), camp.clone());
         script.begin(camp.clone());
         script.go_on(camp.clone(), &ROUNDS);
@@ -367,6 +373,26 @@ pub fn left_behind_session(random: &mut Random, most: &Numbers) -> Vec<u8> {
         write_record(&mut file, &call_left_behind(random, slots, camp.end, n), form(random));
     }
     file
+}
+
+/// With an order or empty, by all in phase 1.
+fn close_together(random: &mut Random, script: &mut Script) {
+    let Numbers { n, slots, .. } = script.numbers;
+    if random.one_in(2) {
+        script.share(order(slots), 0..n);
+    } else {
+        script.share_apart();
+    }
+    script.begin(0..n);
+    script.go_on(0..n, &ROUNDS);
+}
+
+/// The last replica closes the slot that it was left in, by notices or, in the find round, by the proposals that it lacks.
+fn catch_up(random: &mut Random, script: &mut Script, round: u16) {
+    let (n, quorum) = (script.numbers.n, script.numbers.quorum());
+    let sort = if round == FIND && random.one_in(2) { Sort::Proposal } else { Sort::Notice };
+    script.hear(n - 1, 0..n - quorum, sort);
+    script.advance([n - 1]);
 }
 
 /// Of a replica outside the camp, mostly the last. Whether it is accepted is left to the run.

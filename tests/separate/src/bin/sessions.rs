@@ -94,9 +94,9 @@ fn draw_file(random: &mut Random) -> Vec<u8> {
     let most = if random.one_in(16) { LARGE } else { REHEARSAL };
     match random.below(100) {
         0 => long_session(random, &most),
-        1..20 => wild_session(random, &most),
-        20..40 => broken_session(random, &most),
-        40..46 => left_behind_session(random, &most),
+        1..18 => wild_session(random, &most),
+        18..36 => broken_session(random, &most),
+        36..46 => left_behind_session(random, &most),
         46..52 => busy_session(random, &most),
         _ => session(random, &most),
     }
