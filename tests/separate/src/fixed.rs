@@ -6,6 +6,7 @@ use crate::call::{Answer, Call, Done};
 use crate::coin::{pattern, PATTERN};
 use crate::compare::{compare_strip, Difference, Pair};
 use crate::conductor::Conducted;
+use crate::counted::{self, close_last, recounted, Counted};
 use crate::library;
 use crate::long_runs::{go_through, CatchUp};
 use crate::memories::Memories;
@@ -26,7 +27,18 @@ pub fn compare_fixed(tally: &mut Tally) -> Result<(), Difference> {
     compare_ranks()?;
     compare_band_limits()?;
     compare_long_lengths()?;
-    compare_late_slots(tally)
+    compare_late_slots(tally)?;
+    compare_counts(tally)?;
+    compare_count_limits(tally)
+}
+
+/// Makes the script's calls of both, and tells the tally.
+fn replay(script: &Script, pair: &mut Pair, tally: &mut Tally) -> Result<(), Difference> {
+    for call in &script.calls {
+        let result = pair.call(call, &script.numbers)?;
+        tally.note_events(call, &script.numbers, &result, &pair.ours);
+    }
+    Ok(())
 }
 
 /// The O.150 pattern: every start, with the largest strip and smaller ones. Both must give its entries as the recurrence
@@ -126,11 +138,7 @@ fn compare_busy_days(tally: &mut Tally) -> Result<(), Difference> {
         let mut ending = busy_script(&plan, start, undecided);
         settle(&mut ending, undecided + 1);
         for script in [ending, busy_script(&plan, start, 16)] {
-            let mut pair = Pair::of(Memories::of_run(&script.numbers));
-            for call in &script.calls {
-                let result = pair.call(call, &script.numbers)?;
-                tally.note_events(call, &script.numbers, &result, &pair.ours);
-            }
+            replay(&script, &mut Pair::of(Memories::of_run(&script.numbers)), tally)?;
         }
     }
     Ok(())
@@ -251,9 +259,48 @@ fn compare_late_slots(tally: &mut Tally) -> Result<(), Difference> {
         script.begin([0, 1, 2]);
         script.advance([0, 1, 2]);
         script.hear_of(slot + 1, 0, 0, 1, Sort::Notice);
-        for call in &script.calls {
-            let result = pair.call(call, &script.numbers)?;
-            tally.note_events(call, &script.numbers, &result, &pair.ours);
+        replay(&script, &mut pair, tally)?;
+    }
+    Ok(())
+}
+
+/// Request 8's cases, and runs of 1,024 slots that end: the counts that each replica must have, asked of the library.
+fn compare_counts(tally: &mut Tally) -> Result<(), Difference> {
+    let whole =
+        counted::runs().into_iter().map(|counted| (Memories::of_run(&counted.script.numbers), counted));
+    let last = counted::last_slots().into_iter().map(|mut counted| {
+        let memories = counted.script.memories.clone();
+        close_last(&mut counted.script);
+        (memories, counted)
+    });
+    for (memories, Counted { name, script, counts }) in whole.chain(last) {
+        let mut pair = Pair::of(memories);
+        replay(&script, &mut pair, tally)?;
+        let of = |who| pair.theirs.record(who).map(|record| (record.empty, record.fast));
+        let theirs: Vec<_> = (0..counts.len()).filter_map(of).collect();
+        if theirs != counts {
+            return Err(format!("{name}: counts {theirs:?} and not {counts:?}"));
+        }
+    }
+    Ok(())
+}
+
+/// Request 8's refusal, asked of both: each kind of call, with counts of each replica at its one closed slot and above it. A
+/// crash reads the record of replica 0 alone.
+fn compare_count_limits(tally: &mut Tally) -> Result<(), Difference> {
+    let within = [(0, 0), (1, 0), (0, 1), (1, 1)].map(|counts| (counts, false));
+    let above = [(2, 0), (0, 2), (2, 2), (257, 1), (1, 257), (65_535, 0), (0, 65_535)];
+    for (who, ((empty, fast), exceeds)) in (0..3).flat_map(|who| {
+        within.into_iter().chain(above.map(|counts| (counts, true))).map(move |row| (who, row))
+    }) {
+        for call in counted::calls() {
+            let mut pair = Pair::of(recounted(who, empty, fast));
+            let result = pair.call(&call, &counted::RACK)?;
+            tally.note_events(&call, &counted::RACK, &result, &pair.ours);
+            let right = exceeds && (who == 0 || call != Call::Crash { who: 0 });
+            if (result == Err(Refusal::SpoiledRecord)) != right {
+                return Err(format!("{call:?} with counts {empty} and {fast} of {who}: {result:?}"));
+            }
         }
     }
     Ok(())

@@ -19,6 +19,7 @@ pub mod compare;
 pub mod conducted;
 pub mod conductor;
 pub mod counted;
+pub mod counts;
 pub mod damage;
 pub mod filled;
 #[cfg(feature = "library")]
@@ -34,6 +35,7 @@ pub mod notices;
 pub mod numbers;
 pub mod options;
 pub mod orders;
+pub mod outcomes;
 pub mod phases;
 pub mod planes;
 pub mod racks;

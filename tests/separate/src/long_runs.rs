@@ -37,8 +37,9 @@ pub fn plan(random: &mut Random) -> Numbers {
     Numbers { n, f: (n - 1) / 2, slots, phases: random.pick(&[0, 1, 2, 3, 3, 4, 4]), room }
 }
 
-/// Brings a run that has just been opened to a late slot. Half the time nothing is pending there.
-pub fn bring_forward(random: &mut Random, numbers: &Numbers, memories: &mut Memories) {
+/// Brings a run that has just been opened to a late slot. Half the time nothing is pending there. Answers the slots that all
+/// have closed, each by an outcome of phase 1.
+pub fn bring_forward(random: &mut Random, numbers: &Numbers, memories: &mut Memories) -> usize {
     let closed = random.pick(&CLOSED).min(numbers.slots).min(numbers.room);
     let more = random.pick(&[closed + 1, closed + 3, 256, numbers.room - 1, numbers.room]);
     let count = if random.one_in(2) { closed } else { more.clamp(closed, numbers.room) };
@@ -50,6 +51,7 @@ pub fn bring_forward(random: &mut Random, numbers: &Numbers, memories: &mut Memo
     }
     let entries = if random.one_in(2) { by_rank(&known, closed) } else { by_age(&known, closed) };
     fill(numbers, &known, &entries, memories);
+    closed
 }
 
 /// An order, urgent or not, and any holders.

@@ -2,6 +2,7 @@
 
 use crate::bands;
 use crate::call::{Call, Done};
+use crate::counts;
 use crate::memories::{Memories, ONE, UNDECIDED, ZERO};
 use crate::notices;
 use crate::numbers::{Numbers, Sort};
@@ -12,7 +13,7 @@ use crate::urgent;
 use std::collections::BTreeMap;
 use std::process::ExitCode;
 
-/// What a run can meet beside refusals, notices, long slots, urgent tags and longer bands.
+/// What a run can meet beside refusals, notices, long slots, urgent tags, longer bands and counts.
 pub const EVENTS: [&str; 33] = [
     "opened",
     "submitted new",
@@ -103,7 +104,7 @@ impl Tally {
         result: &Result<Done, Refusal>,
         memories: &Memories,
     ) {
-        for met in [notices::met, phases::met, urgent::met, bands::met] {
+        for met in [notices::met, phases::met, urgent::met, bands::met, counts::met] {
             met(call, numbers, result, memories).into_iter().for_each(|event| self.note(event));
         }
         if let Ok(done) = result {

@@ -8,6 +8,7 @@ use separate::call::{Call, Done};
 use separate::coin::PATTERN;
 use separate::compare::{compare_play, compare_strip, Difference, Pair};
 use separate::conducted;
+use separate::counts;
 use separate::damage::{any_record, lent, Damage, DAMAGES, LEVEL_DAMAGES};
 use separate::fixed::compare_fixed;
 use separate::generate::{
@@ -20,6 +21,7 @@ use separate::memories::Memories;
 use separate::notices;
 use separate::numbers::{Message, Numbers, Sort, LARGEST, MOST_REPLICAS, MOST_SLOTS, USUAL_PHASES};
 use separate::options::number;
+use separate::outcomes::{advances, Outcomes};
 use separate::phases;
 use separate::planes;
 use separate::racks::{lead_on, LEADS};
@@ -91,7 +93,8 @@ fn expected() -> impl Iterator<Item = String> {
     let events =
         EVENTS.into_iter().chain(noticed).chain(phases::EVENTS).chain(strips::EVENTS).chain(conducted);
     let bands = bands::EVENTS.into_iter().chain(bands::EVENTS_OF_CALLS);
-    let others = others.chain(UNMARKED).chain(planes::EVENTS_OF_RUNS);
+    let counts = counts::EVENTS.into_iter().chain(counts::EVENTS_OF_CALLS);
+    let others = others.chain(UNMARKED).chain(planes::EVENTS_OF_RUNS).chain(counts);
     let events = events.chain(urgent::EVENTS).chain(bands).chain(others).map(str::to_string);
     refusals.chain(events).chain(damages).chain(racks)
 }
@@ -121,6 +124,8 @@ struct Trial<'a> {
     whole: Option<(Memories, usize)>,
     /// Whether no damage was kept since the opening: then the whole memories are those of a run.
     is_run: bool,
+    /// What the accepted advances of the run say.
+    outcomes: Outcomes,
     /// The odds of racks that are made for the conductor.
     rack_odds: usize,
     conducted_in_a_row: usize,
@@ -154,6 +159,7 @@ impl Trial<'_> {
             pair,
             whole: None,
             is_run: false,
+            outcomes: Outcomes::after(0, &numbers),
             rack_odds,
             conducted_in_a_row: 0,
         }
@@ -173,7 +179,7 @@ impl Trial<'_> {
             }
             self.step()?;
         }
-        self.archive_logs()?;
+        self.end_run()?;
         Ok(steps + 1)
     }
 
@@ -230,12 +236,30 @@ impl Trial<'_> {
         (0..conducts).try_for_each(|_| self.call(&Call::Conduct, &script.numbers))
     }
 
+    /// Whether the memories are those of a run.
+    fn in_run(&self) -> bool {
+        self.is_run && self.whole.is_none()
+    }
+
+    /// In a run the counts' claim must hold after each call.
     fn call(&mut self, call: &Call, numbers: &Numbers) -> Result<(), Difference> {
-        if *call == Call::Conduct {
-            return self.conduct(numbers);
+        let taken = if self.in_run() { advances(call, numbers, &self.pair.ours) } else { Vec::new() };
+        match call {
+            Call::Conduct => self.conduct(numbers)?,
+            _ => self.make(call, numbers)?,
         }
+        taken.into_iter().for_each(|advance| self.outcomes.note(advance));
+        if self.in_run() {
+            let claim = counts::claim(&self.numbers, &self.pair.ours, &self.outcomes);
+            claim.map_err(|wrong| format!("{call:?}, the counts' claim: {wrong}"))?;
+        }
+        Ok(())
+    }
+
+    fn make(&mut self, call: &Call, numbers: &Numbers) -> Result<(), Difference> {
         self.conducted_in_a_row = 0;
         let own = own_message(call, &self.pair.ours);
+        let counted = self.in_run() && counts::are_counted(&self.numbers, &self.pair.ours);
         let result = self.pair.call(call, numbers)?;
         self.note_answer(call.name(), result.map(|_| ()));
         if let Some((who, message)) = own {
@@ -246,17 +270,24 @@ impl Trial<'_> {
         if let Ok(done) = result {
             self.refused_in_a_row = 0;
             if let Done::Opened(numbers) = done {
-                self.numbers = numbers;
-                self.whole = None;
-                self.is_run = true;
-                // the first slots are like those of a small run
-                if is_long(&numbers) {
-                    bring_forward(&mut self.random, &numbers, &mut self.pair.ours);
-                    self.pair.theirs.clone_from(&self.pair.ours);
-                }
+                counted.then(|| self.tally.note("opened over a run's counts"));
+                self.start_run(numbers);
             }
         }
         Ok(())
+    }
+
+    /// The first slots of a long run are like those of a small one, so it is taken over later.
+    fn start_run(&mut self, numbers: Numbers) {
+        self.numbers = numbers;
+        self.whole = None;
+        self.is_run = true;
+        let mut closed = 0;
+        if is_long(&numbers) {
+            closed = bring_forward(&mut self.random, &numbers, &mut self.pair.ours);
+            self.pair.theirs.clone_from(&self.pair.ours);
+        }
+        self.outcomes = Outcomes::after(closed, &numbers);
     }
 
     /// In a run the conductor's claim must hold.
@@ -265,14 +296,15 @@ impl Trial<'_> {
         let result = self.pair.call(&Call::Conduct, numbers)?;
         self.note_answer(Call::Conduct.name(), result.map(|_| ()));
         let events = conducted::met(numbers, &result, &before, &self.pair.ours);
-        events.into_iter().for_each(|event| self.tally.note(event));
+        let counted = counts::met(&Call::Conduct, numbers, &result, &self.pair.ours);
+        events.into_iter().chain(counted).for_each(|event| self.tally.note(event));
         let Ok(Done::Conducted(counts)) = result else { return Ok(()) };
         self.refused_in_a_row = 0;
         self.conducted_in_a_row += 1;
         if self.conducted_in_a_row == 3 {
             self.tally.note(CONDUCTED[1]);
         }
-        if self.is_run && self.whole.is_none() {
+        if self.in_run() {
             let claim = conducted::claim(numbers, &before, &self.pair.ours, counts);
             claim.map_err(|wrong| format!("the conductor's claim: {wrong}"))?;
             self.tally.note(CONDUCTED[0]);
@@ -304,13 +336,14 @@ impl Trial<'_> {
         self.tally.note(&answer_name(call, result.map_or_else(Refusal::number, |()| 0)));
     }
 
-    /// In a run every replica's log is stored and read back. What it has in it is no damage's.
-    fn archive_logs(&mut self) -> Result<(), Difference> {
+    /// In a run every replica's log is stored and read back. What it has in it is no damage's, nor are its counts.
+    fn end_run(&mut self) -> Result<(), Difference> {
         let memories = self.whole.as_ref().map_or(&self.pair.ours, |(whole, _)| whole);
         for who in (0..self.numbers.n).filter(|_| self.is_run) {
             let log = memories.log(&self.numbers, who, memories.slot(who));
             compare_log(log).map_err(|difference| format!("the log of {who}: {difference}"))?;
-            planes::met_in_run(log).into_iter().for_each(|event| self.tally.note(event));
+            let events = planes::met_in_run(log).into_iter().chain(counts::met_in_run(memories, who));
+            events.for_each(|event| self.tally.note(event));
         }
         Ok(())
     }
@@ -348,6 +381,7 @@ impl Trial<'_> {
         let result = rules::crash(numbers, who, &mut ours);
         let refusal = library::crash(numbers, who, &mut theirs);
         self.note_answer("crash", result);
+        counts::met_by_crash(numbers, lent, result).into_iter().for_each(|event| self.tally.note(event));
         if (result.map_or_else(Refusal::number, |()| 0), ours) == (refusal, theirs) {
             return Ok(());
         }

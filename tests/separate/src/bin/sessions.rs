@@ -5,6 +5,7 @@
 use separate::bands;
 use separate::call::{Call, Done};
 use separate::compare::{compare_play, first_line, Difference};
+use separate::counts;
 use separate::damage::{lent, DAMAGES};
 use separate::generate::{
     broken_session, busy_session, left_behind_session, long_session, record_places, session, wild_session,
@@ -66,7 +67,7 @@ fn expected() -> impl Iterator<Item = String> {
     let refusals = (1..=21).filter(|&refusal| refusal != 3).map(|refusal| format!("refused {refusal}"));
     let events = EVENTS.into_iter().chain(notices::EVENTS).chain(phases::EVENTS).chain(urgent::EVENTS);
     let bands = bands::EVENTS.into_iter().chain(bands::EVENTS_OF_RECORDS).chain(bands::EVENTS_OF_REHEARSAL);
-    refusals.chain(events.chain(bands).chain(FILES).map(str::to_string))
+    refusals.chain(events.chain(bands).chain(counts::EVENTS).chain(FILES).map(str::to_string))
 }
 
 fn compare_session(program: &str, seed: u64, tally: &mut Tally) -> Result<(), Difference> {
