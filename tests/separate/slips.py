@@ -48,8 +48,8 @@ SLIPS = [
     # sections of the memories
     ("numbers", "records one word late", "RECORDS: usize = 1", "RECORDS: usize = 2"),
     ("numbers", "records start at the count", "RECORDS: usize = 1", "RECORDS: usize = 0"),
-    ("numbers", "holders based at 4n", "RECORDS + 4 * self.n", "4 * self.n"),
-    ("numbers", "a mask of holders one word early", "self.holders_start() + place", "4 * self.n + place"),
+    ("numbers", "holders based at 6n", "RECORDS + RECORD_WORDS * self.n", "RECORD_WORDS * self.n"),
+    ("numbers", "a mask of holders one word early", "self.holders_start() + place", "RECORD_WORDS * self.n + place"),
     ("numbers", "heard base without room", "self.holders_start() + self.room", "self.holders_start()"),
     ("numbers", "heard masks over the holders", "self.heard_start() + (message", "self.holders_start() + (message"),
     ("numbers", "proposals base without room", "usize {\n        self.room\n", "usize {\n        0\n"),
@@ -64,8 +64,8 @@ SLIPS = [
     ("memories", "the count of short words not judged", "self.known() > numbers.room",
      "self.words.len() >= numbers.lengths().words && self.known() > numbers.room"),
     ("memories", "a record judged though partly there", "let mut records = self.records().iter().take(numbers.n);",
-     "let padded: Vec<u16> = self.words.iter().copied().chain([0; 3]).collect();\n"
-     "        let mut records = padded[1..].as_chunks::<4>().0.iter().take(numbers.n);"),
+     "let padded: Vec<u16> = self.words.iter().copied().chain([0; 5]).collect();\n"
+     "        let mut records = padded[1..].as_chunks::<6>().0.iter().take(numbers.n);"),
     ("memories", "records judged only if all are there", "self.records().iter().take(numbers.n)",
      "self.records().iter().filter(|_| self.records().len() >= numbers.n).take(numbers.n)"),
     ("memories", "heard marks outlive an opening", "self.words[..needs.words].fill(0)", "self.words[..numbers.heard_start()].fill(0)"),
@@ -175,7 +175,7 @@ SLIPS = [
      "    if memories.heard_proposals(numbers, slot, who).count() < numbers.quorum() {\n        return Err(Refusal::TooFewHeard);\n    }\n"
      "    let tag = majority_tag(numbers, who, slot, memories).ok_or(Refusal::TooFewHeard)?;"),
     ("rules", "find clears the phase", "Record { round: FIND, ..record }", "Record { round: FIND, phase: 0, ..record }"),
-    ("rules", "closing clears the phase", "slot: record.slot + 1, ..record", "slot: record.slot + 1, phase: 0, ..record"),
+    ("rules", "closing clears the phase", "slot: record.slot + 1, empty, ..record", "slot: record.slot + 1, phase: 0, empty, ..record"),
     ("rules", "run on counts the refused advance", "Ok(Ran { advances, stop: Stop::Refused(refusal) })",
      "Ok(Ran { advances: advances + 1, stop: Stop::Refused(refusal) })"),
     ("rules", "run on stops at a coin", "Advanced::ClosedEmpty | Advanced::ClosedWith(_) | Advanced::Found(_) |",
@@ -425,7 +425,8 @@ SLIPS = [
     ("memories", "a record above slot 64 is spoiled", "|| slot > numbers.slots\n", "|| slot > numbers.slots.min(64)\n"),
     # longer bands: "slot numbers take two bytes wherever they are stored"
     ("memories", "a slot of 8 bits stored in a record", "[record.crashed, record.round, record.slot,", "[record.crashed, record.round, record.slot & 255,"),
-    ("memories", "a slot of 8 bits read from a record", "Record { crashed, round, slot, phase }\n", "Record { crashed, round, slot: slot & 255, phase }\n"),
+    ("memories", "a slot of 8 bits read from a record", "Record { crashed, round, slot, phase, empty, fast }\n",
+     "Record { crashed, round, slot: slot & 255, phase, empty, fast }\n"),
     ("memories", "a slot of 10 bits stored in a record", "[record.crashed, record.round, record.slot,", "[record.crashed, record.round, record.slot & 1023,"),
     ("memories", "a count of known tags of 8 bits", "self.words[0] += 1;", "self.words[0] = (self.words[0] + 1) & 255;"),
     ("memories", "a count of known tags of 10 bits", "self.words[0] += 1;", "self.words[0] = (self.words[0] + 1) & 1023;"),
@@ -641,6 +642,160 @@ SLIPS = [
     ("archive", "the last entry not read", "entries[..count].iter_mut()", "entries[..count.saturating_sub(1)].iter_mut()"),
     ("archive", "no entries above the 255th read", "entries[..count].iter_mut()", "entries[..count.min(255)].iter_mut()"),
     ("archive", "the 1,024th entry not read", "entries[..count].iter_mut()", "entries[..count.min(1023)].iter_mut()"),
+    # counts: when they are raised
+    ("rules", "entering find is fast, and its close too", "Record { round: FIND, ..record }",
+     "Record { round: FIND, fast: record.fast + u16::from(record.phase == 1), ..record }"),
+    ("rules", "fast at the vote, before find closes",
+     "    close_by_outcome(numbers, who, record, tag, memories);\n    Ok(Advanced::Found(tag))\n}\n\n"
+     "/// \"Outcome 1 closes it with the tag that has a majority among the proposals heard\".\n"
+     "fn close_with_majority(numbers: &Numbers, who: usize, record: Record, memories: &mut Memories) -> Advanced {\n"
+     "    match majority_tag(numbers, who, usize::from(record.slot), memories) {\n        Some(tag) => {\n"
+     "            close_by_outcome(numbers, who, record, tag, memories);\n            Advanced::ClosedWith(tag)\n        }\n"
+     "        None => {\n            memories.set_record(who, Record { round: FIND, ..record });",
+     "    close(numbers, who, record, tag, memories);\n    Ok(Advanced::Found(tag))\n}\n\n"
+     "fn close_with_majority(numbers: &Numbers, who: usize, record: Record, memories: &mut Memories) -> Advanced {\n"
+     "    match majority_tag(numbers, who, usize::from(record.slot), memories) {\n        Some(tag) => {\n"
+     "            close_by_outcome(numbers, who, record, tag, memories);\n            Advanced::ClosedWith(tag)\n        }\n"
+     "        None => {\n            let fast = record.fast + u16::from(record.phase == 1);\n"
+     "            memories.set_record(who, Record { round: FIND, fast, ..record });"),
+    ("rules", "find of phase 1 is not fast", "    close_by_outcome(numbers, who, record, tag, memories);\n    Ok(Advanced::Found(tag))",
+     "    close(numbers, who, record, tag, memories);\n    Ok(Advanced::Found(tag))"),
+    ("rules", "an empty slot of phase 1 is not fast", "close_by_outcome(numbers, who, record, 0, memories);", "close(numbers, who, record, 0, memories);"),
+    ("rules", "a slot with an order in phase 1 is not fast", "u16::from(record.phase == 1)", "u16::from(record.phase == 1 && entry == 0)"),
+    ("rules", "a close in any phase is fast", "u16::from(record.phase == 1)", "1"),
+    ("rules", "a close in phase 2 is fast", "u16::from(record.phase == 1)", "u16::from(record.phase == 2)"),
+    ("rules", "a close in phase 1 or 2 is fast", "u16::from(record.phase == 1)", "u16::from((1..=2).contains(&record.phase))"),
+    ("rules", "a close in phase 0 is fast too", "u16::from(record.phase == 1)", "u16::from(record.phase <= 1)"),
+    ("rules", "a close in phase 257 is fast too", "u16::from(record.phase == 1)", "u16::from(record.phase as u8 == 1)"),
+    ("rules", "going on from phase 1 is fast", "Record { phase: record.phase + 1, ..record }",
+     "Record { phase: record.phase + 1, fast: record.fast + u16::from(phase == 1), ..record }"),
+    ("rules", "a vote for 0 raises the empty count", "Record { round: VOTE, ..record }",
+     "Record { round: VOTE, empty: record.empty + u16::from(vote == ZERO), ..record }"),
+    ("rules", "slots with an order raise the empty count", "u16::from(entry == 0)", "u16::from(entry != 0)"),
+    ("rules", "every close raises the empty count", "u16::from(entry == 0)", "1"),
+    ("rules", "only phase 1 raises the empty count", "u16::from(entry == 0)", "u16::from(entry == 0 && record.phase == 1)"),
+    ("rules", "the empty count taken from the log", "let empty = record.empty + u16::from(entry == 0);",
+     "let empties = memories.log(numbers, who, usize::from(record.slot)).iter().filter(|&&old| old == 0).count();\n"
+     "    let empty = empties as u16 + u16::from(entry == 0);"),
+    ("rules", "an empty count of 8 bits", "let empty = record.empty + u16::from(entry == 0);", "let empty = (record.empty + u16::from(entry == 0)) & 255;"),
+    ("rules", "an empty count of 10 bits", "let empty = record.empty + u16::from(entry == 0);", "let empty = (record.empty + u16::from(entry == 0)) & 1023;"),
+    ("rules", "a fast count of 8 bits", "let fast = record.fast + u16::from(record.phase == 1);",
+     "let fast = (record.fast + u16::from(record.phase == 1)) & 255;"),
+    ("rules", "a fast count of 10 bits", "let fast = record.fast + u16::from(record.phase == 1);",
+     "let fast = (record.fast + u16::from(record.phase == 1)) & 1023;"),
+    ("rules", "a run on raises no count", "    Ok(Ran { advances, stop: Stop::Closed(last) })",
+     "    let closed = memories.record(who).unwrap_or_default();\n"
+     "    memories.set_record(who, Record { empty: record.empty, fast: record.fast, ..closed });\n"
+     "    Ok(Ran { advances, stop: Stop::Closed(last) })"),
+    ("conductor", "the conductor raises no count", "    Ok(Conducted { steps, relays })",
+     "    for &who in &plan.lit {\n        let record = memories.record(who).unwrap_or_default();\n"
+     "        memories.set_record(who, Record { fast: record.fast.saturating_sub(1), ..record });\n    }\n"
+     "    Ok(Conducted { steps, relays })"),
+    # counts: a close by notice
+    ("rules", "a notice in phase 1 is fast", "        close(numbers, who, record, entry, memories);\n        return Ok(Advanced::ByNotice",
+     "        close_by_outcome(numbers, who, record, entry, memories);\n        return Ok(Advanced::ByNotice"),
+    ("rules", "a notice in a round of phase 1 is fast",
+     "        close(numbers, who, record, entry, memories);\n        return Ok(Advanced::ByNotice",
+     "        let fast = record.fast + u16::from(record.round != IDLE && record.phase == 1);\n"
+     "        close(numbers, who, Record { fast, ..record }, entry, memories);\n        return Ok(Advanced::ByNotice"),
+    ("rules", "a notice when idle behind phase 1 is fast",
+     "        close(numbers, who, record, entry, memories);\n        return Ok(Advanced::ByNotice",
+     "        let fast = record.fast + u16::from(record.round == IDLE && record.phase == 1);\n"
+     "        close(numbers, who, Record { fast, ..record }, entry, memories);\n        return Ok(Advanced::ByNotice"),
+    ("rules", "a notice in find of phase 1 is fast",
+     "        close(numbers, who, record, entry, memories);\n        return Ok(Advanced::ByNotice",
+     "        let fast = record.fast + u16::from(record.round == FIND && record.phase == 1);\n"
+     "        close(numbers, who, Record { fast, ..record }, entry, memories);\n        return Ok(Advanced::ByNotice"),
+    ("rules", "a notice ahead of an outcome is fast",
+     "        close(numbers, who, record, entry, memories);\n        return Ok(Advanced::ByNotice",
+     "        let tried = advance_by_round(numbers, who, record, &mut memories.clone());\n"
+     "        let reached = record.round == VOTE && record.phase == 1 && tried.is_ok_and(Advanced::closes);\n"
+     "        let fast = record.fast + u16::from(reached);\n"
+     "        close(numbers, who, Record { fast, ..record }, entry, memories);\n        return Ok(Advanced::ByNotice"),
+    ("rules", "a close by notice leaves the empty count", "        close(numbers, who, record, entry, memories);\n        return Ok(Advanced::ByNotice",
+     "        close(numbers, who, record, entry, memories);\n        let closed = memories.record(who).unwrap_or_default();\n"
+     "        memories.set_record(who, Record { empty: record.empty, ..closed });\n        return Ok(Advanced::ByNotice"),
+    # counts: refusal 3
+    ("memories", "as many empty as closed slots is spoiled", "self.empty > self.slot ||", "self.empty >= self.slot.max(1) ||"),
+    ("memories", "as many fast as closed slots is spoiled", "|| self.fast > self.slot\n", "|| self.fast >= self.slot.max(1)\n"),
+    ("memories", "an empty count one above is not spoiled", "self.empty > self.slot ||", "self.empty > self.slot.saturating_add(1) ||"),
+    ("memories", "a fast count one above is not spoiled", "|| self.fast > self.slot\n", "|| self.fast > self.slot.saturating_add(1)\n"),
+    ("memories", "the empty count not judged", "self.empty > self.slot || self.fast > self.slot", "self.fast > self.slot"),
+    ("memories", "the fast count not judged", "self.empty > self.slot || self.fast > self.slot", "self.empty > self.slot"),
+    ("memories", "spoiled only if both counts are above", "self.empty > self.slot || self.fast", "self.empty > self.slot && self.fast"),
+    ("memories", "spoiled if the counts' sum is above", "self.empty > self.slot || self.fast > self.slot",
+     "u32::from(self.empty) + u32::from(self.fast) > u32::from(self.slot)"),
+    ("memories", "counts judged by the slot count", "|| self.counts_exceed()\n",
+     "|| usize::from(self.empty.max(self.fast)) > numbers.slots\n"),
+    ("memories", "counts judged by their low bytes", "self.empty > self.slot || self.fast > self.slot",
+     "self.empty as u8 > self.slot as u8 || self.fast as u8 > self.slot as u8"),
+    ("memories", "counts judged with a sign", "self.empty > self.slot || self.fast > self.slot",
+     "self.empty as i16 > self.slot as i16 || self.fast as i16 > self.slot as i16"),
+    ("memories", "counts judged when idle only", "|| self.counts_exceed()\n", "|| (self.round == IDLE && self.counts_exceed())\n"),
+    ("memories", "counts judged in a round only", "|| self.counts_exceed()\n", "|| (self.round != IDLE && self.counts_exceed())\n"),
+    ("memories", "a crashed one's counts not judged", "|| self.counts_exceed()\n", "|| (self.crashed == 0 && self.counts_exceed())\n"),
+    ("memories", "counts judged by a crash alone", "Record::from(words).is_spoiled(numbers))",
+     "Record { empty: 0, fast: 0, ..Record::from(words) }.is_spoiled(numbers))"),
+    ("memories", "a crash alone judges crashed ones' counts", "Record::from(words).is_spoiled(numbers))",
+     "{\n            let record = Record::from(words);\n            let uncounted = Record { empty: 0, fast: 0, ..record };\n"
+     "            if record.crashed == 0 { record.is_spoiled(numbers) } else { uncounted.is_spoiled(numbers) }\n        })"),
+    ("memories", "the last replica's counts not judged", "records.any(|&words| Record::from(words).is_spoiled(numbers))",
+     "records.by_ref().enumerate().any(|(who, &words)| {\n            let record = Record::from(words);\n"
+     "            let uncounted = Record { empty: 0, fast: 0, ..record };\n"
+     "            if who + 1 == numbers.n { uncounted.is_spoiled(numbers) } else { record.is_spoiled(numbers) }\n        })"),
+    ("memories", "counts of short words not judged", "Record::from(words).is_spoiled(numbers))",
+     "{\n            let record = Record::from(words);\n            let uncounted = Record { empty: 0, fast: 0, ..record };\n"
+     "            if self.fit(numbers) { record.is_spoiled(numbers) } else { uncounted.is_spoiled(numbers) }\n        })"),
+    ("memories", "a record judged without its counts", "let mut records = self.records().iter().take(numbers.n);",
+     "let padded: Vec<u16> = self.words.iter().copied().chain([0; 2]).collect();\n"
+     "        let mut records = padded[1..].as_chunks::<6>().0.iter().take(numbers.n);"),
+    ("memories", "a record judged without its fast count", "let mut records = self.records().iter().take(numbers.n);",
+     "let padded: Vec<u16> = self.words.iter().copied().chain([0; 1]).collect();\n"
+     "        let mut records = padded[1..].as_chunks::<6>().0.iter().take(numbers.n);"),
+    ("rules", "only the acting one's counts judged", "    admit_rack(numbers, memories)?;\n    if named",
+     "    let mut uncounted = memories.clone();\n    for other in (0..numbers.n.min(15)).filter(|&other| other != named[0]) {\n"
+     "        if let Some(record) = memories.record(other) {\n"
+     "            uncounted.set_record(other, Record { empty: 0, fast: 0, ..record });\n        }\n    }\n"
+     "    admit_rack(numbers, &uncounted)?;\n    if named"),
+    ("rules", "only the others' counts judged", "    admit_rack(numbers, memories)?;\n    if named",
+     "    let mut uncounted = memories.clone();\n    if let Some(record) = memories.record(named[0]).filter(|_| named[0] < numbers.n) {\n"
+     "        uncounted.set_record(named[0], Record { empty: 0, fast: 0, ..record });\n    }\n"
+     "    admit_rack(numbers, &uncounted)?;\n    if named"),
+    ("conductor", "the conductor judges no counts", "        rules::admit_rack(numbers, memories)?;",
+     "        let mut uncounted = memories.clone();\n        for who in 0..numbers.n.min(15) {\n"
+     "            if let Some(record) = memories.record(who) {\n"
+     "                uncounted.set_record(who, Record { empty: 0, fast: 0, ..record });\n            }\n        }\n"
+     "        rules::admit_rack(numbers, &uncounted)?;"),
+    ("rules", "a crash judges no counts", "    if record.is_spoiled(numbers) {", "    if (Record { empty: 0, fast: 0, ..*record }).is_spoiled(numbers) {"),
+    ("rules", "a crash judges counts before the number", "    if who >= numbers.n {\n        return Err(Refusal::NoSuchBench);\n    }\n    if record",
+     "    if who >= numbers.n && !record.counts_exceed() {\n        return Err(Refusal::NoSuchBench);\n    }\n    if record"),
+    ("rules", "5 before 3 of counts", "    if record.is_spoiled(numbers) {",
+     "    if record.crashed != 0 && record.counts_exceed() {\n        return Err(Refusal::Dark);\n    }\n    if record.is_spoiled(numbers) {"),
+    # counts: where they stand, and what leaves them
+    ("numbers", "records of four words before the holders", "RECORDS + RECORD_WORDS * self.n", "RECORDS + 4 * self.n"),
+    ("numbers", "records of seven words before the holders", "RECORDS + RECORD_WORDS * self.n", "RECORDS + 7 * self.n"),
+    ("memories", "counts read changed about", "fn from([crashed, round, slot, phase, empty, fast]", "fn from([crashed, round, slot, phase, fast, empty]"),
+    ("memories", "counts stored changed about", "record.phase, record.empty, record.fast];", "record.phase, record.fast, record.empty];"),
+    ("memories", "counts read before the phase", "fn from([crashed, round, slot, phase, empty, fast]", "fn from([crashed, round, slot, empty, fast, phase]"),
+    ("memories", "an opening leaves the counts", "self.words[..needs.words].fill(0);",
+     "let kept: Vec<Record> = (0..numbers.n).filter_map(|who| self.record(who)).collect();\n        self.words[..needs.words].fill(0);\n"
+     "        for (who, Record { empty, fast, .. }) in kept.into_iter().enumerate() {\n"
+     "            self.set_record(who, Record { empty, fast, ..Record::default() });\n        }"),
+    ("rules", "a crash clears the counts", "    record.crashed = 1;", "    *record = Record { crashed: 1, empty: 0, fast: 0, ..*record };"),
+    ("rules", "begin clears the counts", "Record { round: EXCHANGE, phase: 0, ..record }", "Record { round: EXCHANGE, phase: 0, empty: 0, fast: 0, ..record }"),
+    ("rules", "a state that is sent clears the fast count", "Record { round: STATE, ..record }", "Record { round: STATE, fast: 0, ..record }"),
+    ("rules", "a vote clears the empty count", "Record { round: VOTE, ..record }", "Record { round: VOTE, empty: 0, ..record }"),
+    ("rules", "find clears the fast count", "Record { round: FIND, ..record }", "Record { round: FIND, fast: 0, ..record }"),
+    ("rules", "a next phase clears the empty count", "Record { phase: record.phase + 1, ..record }", "Record { phase: record.phase + 1, empty: 0, ..record }"),
+    ("rules", "submit clears the counts", "            memories.add_tag(numbers, tag, who);",
+     "            memories.add_tag(numbers, tag, who);\n            let record = memories.record(who).unwrap_or_default();\n"
+     "            memories.set_record(who, Record { empty: 0, fast: 0, ..record });"),
+    ("rules", "relay clears the counts", "    memories.hold(numbers, place, who);\n    Ok(())",
+     "    memories.hold(numbers, place, who);\n    let record = memories.record(who).unwrap_or_default();\n"
+     "    memories.set_record(who, Record { empty: 0, fast: 0, ..record });\n    Ok(())"),
+    ("rules", "hear clears the receiver's counts", "|= bit(receiver);\n",
+     "|= bit(receiver);\n    let record = memories.record(receiver).unwrap_or_default();\n"
+     "    memories.set_record(receiver, Record { empty: 0, fast: 0, ..record });\n"),
     # step files
     ("step_file", "a byte more is taken", "REHEARSAL_BYTES: usize = 65_536", "REHEARSAL_BYTES: usize = 65_537"),
     ("step_file", "a byte less is taken", "REHEARSAL_BYTES: usize = 65_536", "REHEARSAL_BYTES: usize = 65_535"),
