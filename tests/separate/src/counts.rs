@@ -55,7 +55,7 @@ pub const EVENTS: [&str; 41] = [
 ];
 
 /// What only direct calls meet: of the conductor, of damaged memories, and of records that are lent to a crash.
-pub const EVENTS_OF_CALLS: [&str; 44] = [
+pub const EVENTS_OF_CALLS: [&str; 46] = [
     "counts above 0: conduct",
     "counts: empty is 1,024",
     "counts: fast is 1,024",
@@ -92,6 +92,8 @@ pub const EVENTS_OF_CALLS: [&str; 44] = [
     "accepted with an empty count that the log belies",
     "closed with an empty count that the log belies",
     "find closed, a phase out of range in the record",
+    "find closed, phase 1 in the record and no vote sent",
+    "find closed with fewer than a quorum heard",
     "lent to a crash: counts at the closed slots",
     "lent to a crash: counts below the closed slots",
     "lent to a crash, refused 3: empty count one above alone",
@@ -236,11 +238,7 @@ impl Scene<'_> {
                 ("counts: closed with an order in phase 1, fast alone", first),
                 ("counts: closed with an order in a later phase, neither", later),
             ],
-            Advanced::Found(_) => vec![
-                ("counts: find closed, outcome of phase 1", first),
-                ("counts: find closed, outcome of a later phase", later),
-                ("find closed, a phase out of range in the record", !first && !later),
-            ],
+            Advanced::Found(_) => self.found(who, record),
             Advanced::ByNotice { round, entry } => self.by_notice(who, round, entry),
             Advanced::EnteredFind => {
                 return vec![
@@ -251,6 +249,21 @@ impl Scene<'_> {
             _ => return Vec::new(),
         };
         [close, levels(record)].concat()
+    }
+
+    /// A run comes to the find round by a vote, with a quorum of proposals heard.
+    fn found(&self, who: usize, record: Record) -> Facts {
+        let (first, later) = (record.phase == 1, self.is_later(record));
+        let slot = usize::from(record.slot) - 1;
+        let voted = self.memories.was_sent(self.numbers, Message { sort: Sort::Vote, slot, phase: 1 }, who);
+        let heard = self.memories.heard_proposals(self.numbers, slot, who).count();
+        vec![
+            ("counts: find closed, outcome of phase 1", first),
+            ("counts: find closed, outcome of a later phase", later),
+            ("find closed, a phase out of range in the record", !first && !later),
+            ("find closed, phase 1 in the record and no vote sent", first && !voted),
+            ("find closed with fewer than a quorum heard", heard < self.numbers.quorum()),
+        ]
     }
 
     /// Whether the phase is one of the run's, behind the first.

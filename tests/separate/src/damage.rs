@@ -1,6 +1,6 @@
 //! Memories that no run leaves behind: junk, bits of replicas that are not there, spoiled records, memories that are short.
 
-use crate::memories::{bit, Memories, Record, IDLE, ONE, STATE, UNDECIDED, VOTE, ZERO};
+use crate::memories::{bit, Memories, Record, EXCHANGE, FIND, IDLE, ONE, STATE, UNDECIDED, VOTE, ZERO};
 use crate::numbers::{Message, Numbers, Sort, MOST_PHASES, MOST_SLOTS, RECORDS, RECORD_WORDS};
 use crate::orders::Orders;
 use crate::random::Random;
@@ -8,7 +8,7 @@ use crate::rank::{first_ranked, URGENT};
 
 pub type Damage = fn(&mut Random, &Numbers, &mut Memories);
 
-pub const DAMAGES: [(&str, Damage); 47] = [
+pub const DAMAGES: [(&str, Damage); 48] = [
     ("mask bits of n and above, holders", |random, numbers, memories| {
         holders(numbers, memories).iter_mut().for_each(|mask| *mask |= bits_above(random, numbers));
     }),
@@ -94,6 +94,15 @@ pub const DAMAGES: [(&str, Damage); 47] = [
         let slot = random.below(numbers.slots) as u16;
         let (round, phase) = (random.below(5) as u16, random.between(1, numbers.phases) as u16);
         spoil(random, numbers, memories, |record| Record { round, phase, ..moved(record, slot) });
+    }),
+    ("those in the exchange moved to the find round", |random, numbers, memories| {
+        for replica in 0..numbers.n {
+            let record = memories.record(replica).unwrap_or_default();
+            if record.round == EXCHANGE {
+                let phase = random.pick(&[0, 1, 1, 2, 257]);
+                memories.set_record(replica, Record { round: FIND, phase, ..record });
+            }
+        }
     }),
     ("crashed by another word than 1", |random, numbers, memories| {
         let crashed = random.pick(&[2, 256, u16::MAX]);
