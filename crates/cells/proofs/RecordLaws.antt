@@ -1,6 +1,6 @@
 -- A record that is not there, and one that is: spoiled or not, by its round.
 use mathlib.Core.Path.{_≡_, refl, sym, _∙_, ap}
-use mathlib.Core.Bool.{Bool, true, false, not, _&&_, _||_}
+use mathlib.Core.Bool.{Bool, true, false, not, _&&_, _||_, or-false}
 use mathlib.Core.Logic.{_≢_}
 use mathlib.Core.List.{List, [], _∷_}
 use Prim.Native.Nat.{ℕ, _+_, _*_, _<_, _≤_}
@@ -106,11 +106,7 @@ module _ (k : Record) where
 
     pub spoiled-astray : {o : Bool} → b ≡ false → o ≡ astray N k → o ≡ spoiled N k
     unfolding spoiled
-    spoiled-astray h q = q ∙ sym (or-no (astray N k)) ∙ ap (λ (b : Bool). astray N k || b) (sym h ∙ is)
-      where
-        or-no : (b : Bool) → (b || false) ≡ b
-        or-no true = refl
-        or-no false = refl
+    spoiled-astray h q = q ∙ sym (or-false (astray N k)) ∙ ap (λ (b : Bool). astray N k || b) (sym h ∙ is)
 
 -- ---- the head
 

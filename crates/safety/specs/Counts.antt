@@ -72,13 +72,8 @@ module _ {k : Replica} {own : ℕ → Bool} {reached : ℕ → ℕ → Bool} (ol
     empty = old .empty;
     fast = old .fast ∙ count-same (k .closed) _ _ (λ s l. rw (elsewhere s (omega arith)) refl);
     unclosed = old .unclosed;
-    open-slot = λ s p l. rw (old .open-slot s p l, was) (go (eqb (k .closed) s) (eqb (k .phase) p));
+    open-slot = λ s p l. rw (old .open-slot s p l, was) (either-result true (eqb (k .closed) s) (eqb (k .phase) p) true false);
   }
-    where
-      go : (a b : Bool) → ((a && (b && true)) || (a && (b && false))) ≡ (a && (b && true))
-      go true true = refl
-      go true false = refl
-      go false b = refl
 
   -- the slot is closed, by its own outcome or not, where an outcome is reached with it or not
   module _ (c x : ℕ) (o b : Bool) (why : o ≡ true → (b || same-round (k .round) Find) ≡ true) where
