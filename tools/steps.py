@@ -5,7 +5,7 @@
     python3 tools/steps.py unpack FILE.steps              step file to text
     python3 tools/steps.py explain FILE REPORT            report, with refused steps and readable tags beside it
 
-`-` stands for standard input. FILE of explain is a step file if its name ends in .steps, else text.
+`-` stands for standard input. FILE of explain is a step file if its name ends in .steps, else text. tools/draw.py draws either.
 
 The text has one step to a line; blank lines and what follows a # are passed over:
 
@@ -64,6 +64,13 @@ class Broken(NamedTuple):
 
     text: str
     refusal: int
+
+
+class Record(NamedTuple):
+    """A record of a file, as it is shown, and its step or what is broken there."""
+
+    text: str
+    content: Step | Broken
 
 
 class Mistakes(Exception):
@@ -256,10 +263,15 @@ def field_text(field, number):
     return str(number)
 
 
+def narrow(kind):
+    """The same step as document 01 has it."""
+    return NARROW.get(kind, kind)
+
+
 def step_word(step):
     """A step's name; without `wide` where the numbers ask for it, since reading adds it there."""
-    narrow = NARROW.get(step.kind, step.kind)
-    return step.kind.word if fits(narrow, step.numbers) else narrow.word
+    kind = narrow(step.kind)
+    return step.kind.word if fits(kind, step.numbers) else kind.word
 
 
 def step_text(step):
@@ -330,7 +342,7 @@ def explain_line(line, records):
         raise Mistakes([f"'{line}': the file ends with record {len(records)}"])
     if refusal not in REFUSALS:
         raise Mistakes([f"'{line}': no refusal has this number"])
-    return f"{line:<18} {records[record - 1]}: {refusal_text(refusal)}"
+    return f"{line:<18} {records[record - 1].text}: {refusal_text(refusal)}"
 
 
 def read_input(name):
@@ -353,11 +365,11 @@ def read_readable(name, read=read_line):
 
 
 def read_records(name):
-    """The records of a file as explain shows them."""
+    """The records of a step file or, with their lines, of a text."""
     if not name.endswith(".steps"):
-        return [f"line {line}: {step_text(step)}" for line, step in read_readable(name).items()]
+        return [Record(f"line {line}: {step_text(step)}", step) for line, step in read_readable(name).items()]
     steps, broken = read_steps(read_input(name))
-    return [step_text(step) for step in steps] + ([broken.text] if broken else [])
+    return [Record(step_text(step), step) for step in steps] + ([Record(broken.text, broken)] if broken else [])
 
 
 def pack(arguments):
