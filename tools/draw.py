@@ -98,6 +98,7 @@ def concerns(event, heard):
 
 # ---- in words
 
+
 def entry_text(entry):
     return steps.tag_text(entry) if entry else "empty"
 
@@ -150,6 +151,7 @@ def is_heard(event):
 
 # ---- labels
 
+
 def effect_line(effect):
     """What a label says of an effect, and its style."""
     verb, message, word = effect
@@ -191,6 +193,7 @@ def labels_of(events):
 
 # ---- slots
 
+
 def bars_of(run, who):
     """The slots of a controller: from the begin, or from the notice where there is none, to the close."""
     bars = []
@@ -209,6 +212,7 @@ def bars_of(run, who):
 
 
 # ---- the picture
+
 
 class Picture:
     def __init__(self, run, part):
@@ -277,16 +281,20 @@ class Picture:
                 yield svg.text(number, x, NUMBERS, "faint small middle")
                 edge = x + half + SMALL_LETTER / 2
 
+    def lane_end(self, who):
+        """At its crash, if that has come by the last record that is drawn."""
+        halted = self.halted.get(who)
+        return self.column(halted) if halted and halted <= self.numbers[-1] else self.right
+
     def draw_lane(self, who):
-        """To its crash; one that came before all that is drawn is said."""
+        """From the opening on; a crash that is not drawn is said."""
         y = self.rows[who]
         yield svg.text(f"controller {who}", MARGIN, y + 4, "ink strong")
-        halted = self.halted.get(who)
-        start, end = self.column(self.opened), self.column(halted) if halted else self.right
-        if halted and halted < self.numbers[0]:
-            yield svg.text(f"dark since step {halted}", self.left, y + 4, "faint")
-        elif end > start:
+        start, end = self.column(self.opened), self.lane_end(who)
+        if self.opened <= self.numbers[-1] and start < end:
             yield svg.line(start, end, y)
+        if end < self.right and self.halted[who] not in self.numbers:
+            yield svg.text(f"dark since step {self.halted[who]}", end + LABEL_SPACE, y + 4, "faint")
         for bar in bars_of(self.run, who):
             if self.part.slot in (None, bar.slot):
                 yield from self.draw_bar(who, bar, end)
@@ -354,6 +362,7 @@ def legend_below(y, right):
 
 
 # ---- the command
+
 
 def counted(count, word):
     return f"{count} {word}" if count == 1 else f"{count} {word}s"

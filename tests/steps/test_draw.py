@@ -54,6 +54,12 @@ class Drawn:
         x, y, to_x, to_y = map(float, path.groups())
         return group.get("class"), (x, y), (to_x, to_y)
 
+    def ends(self):
+        """Where each lane's line ends, by controller."""
+        lines = [re.fullmatch(f"M{NUMBER} {NUMBER}H{NUMBER}", path.get("d")) for path in self.root.findall(f"{SVG}path")]
+        rows = {float(line[2]) + 4: float(line[3]) for line in lines if line}
+        return {int(lane.split()[1]): rows.get(y) for lane, y in self.lanes().items()}
+
     def bars(self):
         """Each bar's title and style."""
         shapes = itertools.chain(self.root.findall(f"{SVG}rect"), self.root.findall(f"{SVG}path"))
@@ -129,11 +135,9 @@ class OfTheWorkedSession(unittest.TestCase):
         )
 
     def test_a_crash_ends_the_lane(self):
-        lines = [re.fullmatch(f"M{NUMBER} {NUMBER}H{NUMBER}", path.get("d")) for path in self.drawn.root.findall(f"{SVG}path")]
-        ends = {float(line[2]): float(line[3]) for line in lines if line}
-        crash = self.drawn.mark(21)[1]
-        self.assertEqual(ends[crash[1]], crash[0])
-        self.assertTrue(all(end > crash[0] for y, end in ends.items() if y != crash[1]))
+        ends = self.drawn.ends()
+        self.assertEqual(ends[1], self.drawn.mark(21)[1][0])
+        self.assertEqual([ends[0], ends[2]], [self.drawn.width - draw.MARGIN] * 2)
 
 
 class OfOtherRuns(trying.InFolder):
@@ -204,6 +208,18 @@ class OfParts(trying.InFolder):
         self.assertTrue(all("proposal 0" not in title and " 0 1\n" not in title for title in picture.marks))
         self.assertEqual([title.split(",")[1][:7] for title in picture.bars()], [" slot 1"] * 2)
         self.assertIn("dark since step 9", picture.words("faint"))
+        self.assertIsNone(picture.ends()[0])
+
+    def test_a_crash_that_is_not_drawn(self):
+        run = "opening 2 0 1 1 2 0\nsubmit 0 5\nrelay 1 5\nbegin 0\ncrash 1\nhear 0 1 vote 0 1\nadvance 0\n"
+        text = self.file("run.txt", run.encode())
+        self.assertEqual(drawn("--steps", "1-4", text).ends()[1], draw.LEAST_WIDTH - draw.MARGIN)
+        self.assertIn("dark since step 5", drawn("--steps", "6-7", text).words("faint"))
+        self.assertNotIn("dark since step 5", drawn(text).words("faint"))
+
+    def test_an_opening_that_is_not_drawn(self):
+        picture = drawn("--steps", "1-4", EXAMPLES / "wide_records.txt", EXAMPLES / "wide_records.report")
+        self.assertEqual(picture.ends(), {0: None, 1: None, 2: None})
 
     def test_a_range(self):
         picture = drawn("--steps", "18-400", WORKED)
