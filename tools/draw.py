@@ -423,6 +423,8 @@ def draw(arguments):
         report = steps.read_input(arguments.report).decode("ascii", "backslashreplace").splitlines()
     run = follow.follow(steps.read_records(arguments.file), report)
     part = Part(*arguments.steps, arguments.slot, arguments.controller)
+    if part.who is not None and part.who >= len(run.controllers):
+        raise steps.Mistakes([f"there is no controller {part.who}, the rack has {len(run.controllers)}"])
     picture = Picture(run, part)
     if run.events and not picture.events:
         raise steps.Mistakes([f"nothing to draw: {part_text(part, 0, len(run.events))}"])

@@ -166,6 +166,11 @@ class OfOtherRuns(trying.InFolder):
         picture = self.text("opening 1 0 1 1 1 0\nsubmit 0 7\nbegin 0\nrun on 0\n")
         self.assertEqual(picture.mark(4)[2], ["S0.1=1", "V0.1=1", "slot 0: 7"])
 
+    def test_a_long_run_on_shows_its_first_and_its_last(self):
+        lines = [(name, "ink") for name in "abcdef"]
+        self.assertEqual(draw.shortened(lines[:4]), lines[:4])
+        self.assertEqual([words for words, _ in draw.shortened(lines)], ["a", "+ 3", "e", "f"])
+
     def test_the_find_round(self):
         self.assertEqual(drawn(EXAMPLES / "find_round.txt").mark(26)[2], ["find"])
 
@@ -251,7 +256,8 @@ class OfParts(trying.InFolder):
 
     def test_a_part_without_steps(self):
         self.assertEqual(command("--slot", "9", WORKED), (1, b"", "nothing to draw: slot 9 (0 of 22 steps)\n"))
-        self.assertEqual(command("--steps", "30-40", WORKED)[0], 1)
+        self.assertEqual(command("--steps", "30-40", WORKED)[:2], (1, b""))
+        self.assertEqual(command("--controller", "3", WORKED), (1, b"", "there is no controller 3, the rack has 3\n"))
 
     def test_parts_that_are_none(self):
         for words in (("--steps", "5"), ("--steps", "9-5"), ("--steps", "0-3"), ("--slot", "x"), ("--controller", "-1")):
