@@ -380,13 +380,16 @@ def part_text(part, drawn, total):
     return f"{', '.join(chosen)} ({drawn} of {counted(total, 'step')})" if chosen else f"all {counted(total, 'step')}"
 
 
+def file_name(name):
+    return PurePath(steps.shown_name(name)).name
+
+
 def heading(name, report, run, part, events):
     """The title says what is drawn, the line below it what was refused, and who says so."""
     rack = f"{counted(len(run.controllers), 'controller')}, {run.rack.spare} spare" if run.rack else "no rack was opened"
     refused = sum(event.refusal is not None for event in events) or "none"
-    source = f"as {PurePath(report).name} says" if report else "by the rules; no report was given"
-    title = f"{PurePath(steps.shown_name(name)).name}: {part_text(part, len(events), len(run.events))}; {rack}"
-    return title, f"{refused} refused, {source}"
+    source = f"as {file_name(report)} says" if report else "by the rules; no report was given"
+    return f"{file_name(name)}: {part_text(part, len(events), len(run.events))}; {rack}", f"{refused} refused, {source}"
 
 
 def read_range(words):
@@ -430,7 +433,8 @@ def draw(arguments):
         raise steps.Mistakes([f"nothing to draw: {part_text(part, 0, len(run.events))}"])
     if len(picture.events) > MANY_STEPS:
         print(f"{len(picture.events)} steps are drawn; --slot, --steps or --controller draws a part of them", file=sys.stderr)
-    sys.stdout.write(picture.svg(*heading(arguments.file, arguments.report, run, part, picture.events)))
+    svg_text = picture.svg(*heading(arguments.file, arguments.report, run, part, picture.events))
+    sys.stdout.buffer.write(svg_text.encode("utf-8", "replace"))
 
 
 def main():

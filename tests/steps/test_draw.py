@@ -190,12 +190,14 @@ class OfOtherRuns(trying.InFolder):
         self.assertEqual(self.text("begin 0\n").words("large"), ["run.txt: all 1 step; no rack was opened"])
 
     def test_names_are_written_as_text(self):
-        picture = self.text("opening 1 0 1 1 1 0\n", name="a<b&c>\".txt")
-        self.assertEqual(picture.words("large"), ["a<b&c>\".txt: all 1 step; 1 controller, 0 spare"])
+        picture = self.text("opening 1 0 1 1 1 0\n", name="a<b&c>\"é.txt")
+        self.assertEqual(picture.words("large"), ["a<b&c>\"é.txt: all 1 step; 1 controller, 0 spare"])
 
     def test_standard_input(self):
         status, svg, _ = command("-", given=b"opening 1 0 1 1 1 0\n")
         self.assertEqual((status, Drawn(svg).words("large")), (0, ["standard input: all 1 step; 1 controller, 0 spare"]))
+        _, svg, _ = command(WORKED, "-", given=WORKED.with_suffix(".report").read_bytes())
+        self.assertIn("3 refused, as standard input says", Drawn(svg).words("faint"))
 
 
 def exchange(n):
