@@ -1,5 +1,6 @@
 """Pieces of an SVG picture that reads on light and on dark paper: texts, shapes, arrows and bars."""
 
+import math
 from html import escape
 
 # on light and on dark paper
@@ -95,8 +96,7 @@ def open_bar(x, to, y, half, *inside):
 def arrow(sort, start, end):
     """Its line has the colour of the class around it, its head that of the sort."""
     (x, y), (to_x, to_y) = start, end
-    length = ((to_x - x) ** 2 + (to_y - y) ** 2) ** 0.5
-    part = 1 - NEAR / length
+    part = 1 - NEAR / math.sqrt((to_x - x) ** 2 + (to_y - y) ** 2)
     path = f"M{decimal(x)} {decimal(y)}L{decimal(x + (to_x - x) * part)} {decimal(y + (to_y - y) * part)}"
     return node("path", d=path, class_="arrow", marker_end=f"url(#{sort})")
 
