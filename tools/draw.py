@@ -38,6 +38,7 @@ TITLE = 20
 SUBTITLE = 36
 NUMBERS = 58
 NAMES = 100
+NAMES_EVERY = 1400
 NEAREST = 15
 LETTER = 6.6
 SMALL_LETTER = 5.6
@@ -229,13 +230,18 @@ class Picture:
         self.set_rows()
 
     def set_columns(self):
-        """Marks stand in the order of their records, as near to each other as their labels let them."""
-        x = self.left = MARGIN + NAMES
+        """Marks stand in the order of their records, as near to each other as their labels let them; between them at times the names."""
+        x = edge = self.left = MARGIN + NAMES
+        self.names = [MARGIN]
         self.columns = []
         edges = {}
         for event, label in zip(self.events, self.labels):
+            if x > self.names[-1] + NAMES_EVERY:
+                self.names.append(max(x + NEAREST, *edges.values()))
+                x = edge = self.names[-1] + NAMES
+                edges = {}
             side = event.who, label.over
-            x = max(x + NEAREST, edges.get(side, self.left) + LABEL_SPACE + label.width / 2)
+            x = max(x + NEAREST, edges.get(side, edge) + LABEL_SPACE + label.width / 2)
             self.columns.append(x)
             if label.lines:
                 edges[side] = x + label.width / 2
@@ -289,7 +295,6 @@ class Picture:
     def draw_lane(self, who):
         """From the opening on; a crash that is not drawn is said."""
         y = self.rows[who]
-        yield svg.text(f"controller {who}", MARGIN, y + 4, "ink strong")
         start, end = self.column(self.opened), self.lane_end(who)
         if self.opened <= self.numbers[-1] and start < end:
             yield svg.line(start, end, y)
@@ -298,6 +303,9 @@ class Picture:
         for bar in bars_of(self.run, who):
             if self.part.slot in (None, bar.slot):
                 yield from self.draw_bar(who, bar, end)
+        for x in self.names:
+            if x < end:
+                yield svg.text(f"controller {who}", x, y + 4, "ink strong")
 
     def draw_bar(self, who, bar, end):
         """What began before all that is drawn stands out to the left; what is closed behind it goes on to the lane's end."""

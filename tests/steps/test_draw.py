@@ -275,6 +275,15 @@ class OfParts(trying.InFolder):
         self.assertEqual([picture.mark(step)[2] for step in range(32, 46)], [["P0"]] + [[]] * 13)
         self.assertEqual(len(drawn("--controller", "7", text).arrows), 14)
 
+    def test_a_wide_picture_has_its_names_again(self):
+        picture = drawn(self.file("run.txt", exchange(15).encode()))
+        places = sorted({x for words, x, _, _ in picture.texts if words == "controller 0"})
+        self.assertEqual(places[0], draw.MARGIN)
+        self.assertGreater(len(places), 1)
+        for x, other in itertools.product(places, [picture.mark(step)[1][0] for step in range(1, 257)]):
+            self.assertFalse(x <= other <= x + draw.NAMES - draw.MARGIN)
+        self.assertEqual(len(picture.texts), len(set(picture.texts)))
+
     def test_many_steps_are_said(self):
         text = self.file("run.txt", ("opening 1 0 1 1 1 0\n" + "begin 0\n" * 400).encode())
         self.assertEqual(command(text)[2], "401 steps are drawn; --slot, --steps or --controller draws a part of them\n")
