@@ -27,7 +27,6 @@ PLANES = 8
 MOST_ENTRIES = 1024
 BAD_PLAN = 1
 ODD_LENGTH = 24
-EMPTY = "empty"
 TAG = steps.Field("tag", PLANES)
 
 
@@ -48,7 +47,7 @@ class Lines:
         if number != expected:
             mistakes.append(f"expected slot {expected}, not '{words[1]}'")
         if entry is None:
-            mistakes.append(f"slot wants '{EMPTY}' or {steps.wanted(TAG)}, not '{words[2]}'")
+            mistakes.append(f"slot wants '{steps.EMPTY}' or {steps.wanted(TAG)}, not '{words[2]}'")
         # a slot that is left out is one mistake
         if number is not None:
             self.slot = number + 1
@@ -58,11 +57,7 @@ class Lines:
 
 
 def read_entry(word):
-    return 0 if word == EMPTY else steps.read_tag(word)
-
-
-def entry_text(entry):
-    return steps.tag_text(entry) if entry else EMPTY
+    return 0 if word == steps.EMPTY else steps.read_tag(word)
 
 
 def refuse(name, refusal, found):
@@ -88,7 +83,7 @@ def show(arguments):
     if len(stored) % PLANES != 0:
         refuse(arguments.file, ODD_LENGTH, f"{len(stored)} bytes")
     for slot, entry in enumerate(to_entries(stored)):
-        print("slot", slot, entry_text(entry))
+        print("slot", slot, steps.entry_text(entry))
 
 
 def store(arguments):

@@ -53,7 +53,6 @@ LEAST_WIDTH = 760
 MOST_LINES = 4
 MANY_STEPS = 400
 MANY_LANES = 7
-SENDING = ("send", "close")
 
 
 class Label(NamedTuple):
@@ -100,10 +99,6 @@ def concerns(event, heard):
 # ---- in words
 
 
-def entry_text(entry):
-    return steps.tag_text(entry) if entry else "empty"
-
-
 def message_name(message):
     phase = f".{message.phase}" if message.phase else ""
     return f"{message.sort[0].upper()}{message.slot}{phase}"
@@ -116,7 +111,7 @@ def message_text(message):
 
 def word_text(message, word):
     if message.sort == "notice":
-        return entry_text(word)
+        return steps.entry_text(word)
     return steps.tag_text(word) if message.sort == "proposal" else str(word)
 
 
@@ -129,7 +124,7 @@ def effect_text(effect):
     if verb == "receive":
         return f"hears the {message_text(message)} of controller {message.sender}: {word_text(message, word)}"
     if verb == "close":
-        return f"closes slot {message.slot}: {entry_text(word)}"
+        return f"closes slot {message.slot}: {steps.entry_text(word)}"
     return {"open": "all are lit and idle", "seek": "enters the find round", "halt": "is dark"}[verb]
 
 
@@ -163,7 +158,7 @@ def effect_line(effect):
     if verb == "receive":
         return message_name(message), message.sort
     if verb == "close":
-        return f"slot {message.slot}: {entry_text(word)}", "notice strong"
+        return f"slot {message.slot}: {steps.entry_text(word)}", "notice strong"
     return {"open": "opening", "seek": "find", "halt": "crash"}[verb], "ink strong"
 
 
@@ -225,7 +220,7 @@ class Picture:
         pairs = [(event, effect) for event in run.events for effect in event.effects]
         self.opened = next((event.number for event, effect in pairs if effect.verb == "open"), None)
         self.halted = {event.who: event.number for event, effect in pairs if effect.verb == "halt"}
-        self.sent = {effect.message: event.number for event, effect in pairs if effect.verb in SENDING}
+        self.sent = {effect.message: event.number for event, effect in pairs if effect.verb in ("send", "close")}
         self.set_columns()
         self.set_rows()
 
@@ -314,7 +309,7 @@ class Picture:
         end = self.column(bar.last) if closed else end
         if bar.first > self.numbers[-1] or end <= max(start, self.left):
             return
-        how = "not closed" if bar.last is None else f"closed at step {bar.last}: {entry_text(bar.entry)}"
+        how = "not closed" if bar.last is None else f"closed at step {bar.last}: {steps.entry_text(bar.entry)}"
         title = svg.title(f"controller {who}, slot {bar.slot} from step {bar.first}, {how}")
         if closed:
             yield svg.bar(start, end, self.rows[who], HALF_BAR, "full" if bar.entry else "empty", title)
@@ -423,16 +418,12 @@ def read_arguments():
     parser.add_argument("--slot", type=read_number, help="draw the steps of this slot")
     parser.add_argument("--controller", type=read_number, help="draw the steps of this controller, and those whose messages it heard")
     parser.add_argument("--steps", type=read_range, metavar="FIRST-LAST", default=(1, None), help="draw these records")
+    parser.set_defaults(run=draw)
     return parser.parse_args()
 
 
 def draw(arguments):
-    if arguments.file == arguments.report == "-":
-        raise steps.Mistakes(["FILE and REPORT cannot both be standard input"])
-    report = None
-    if arguments.report:
-        report = steps.read_input(arguments.report).decode("ascii", "backslashreplace").splitlines()
-    run = follow.follow(steps.read_records(arguments.file), report)
+    run = follow.follow(*steps.read_played(arguments))
     part = Part(*arguments.steps, arguments.slot, arguments.controller)
     if part.who is not None and part.who >= len(run.controllers):
         raise steps.Mistakes([f"there is no controller {part.who}, the rack has {len(run.controllers)}"])
@@ -445,12 +436,5 @@ def draw(arguments):
     sys.stdout.buffer.write(svg_text.encode("utf-8", "replace"))
 
 
-def main():
-    try:
-        draw(read_arguments())
-    except steps.Mistakes as found:
-        sys.exit(str(found))
-
-
 if __name__ == "__main__":
-    main()
+    steps.carry_out(read_arguments())

@@ -5,7 +5,6 @@ rehearsal program. With that program's report at hand `follow` takes from it wha
 decide, and a report that says anything else than the rules is turned away.
 """
 
-import re
 from collections import Counter
 from typing import NamedTuple
 
@@ -222,10 +221,10 @@ def open_rack(n, f, slots, phases, room, start):
 class Run:
     """A step file, record by record; `reported` has the refusals of its report, if there is one, by record."""
 
-    def __init__(self, reported=None):
+    def __init__(self, reported):
         self.rack = None
         self.events = []
-        self.reported = reported or {}
+        self.reported = reported
 
     @property
     def controllers(self):
@@ -284,14 +283,9 @@ class Run:
             yield " ".join(["bench", str(who), "lit" if controller.lit else "dark", str(controller.slot), *entries])
 
 
-def reported_refusals(report):
-    found = (re.fullmatch("refused ([0-9]{1,9}) ([0-9]{1,9})", line) for line in report)
-    return {int(refused[1]): int(refused[2]) for refused in found if refused}
-
-
 def follow(records, report=None):
     """The run of these records; a report that is not theirs is a mistake."""
-    run = Run(reported_refusals(report or []))
+    run = Run(dict(filter(None, map(steps.read_refusal, report or []))))
     for record in records:
         if run.take(record).refusal in (steps.UNKNOWN_KIND, steps.CUT_RECORD):
             break

@@ -116,6 +116,7 @@ TAGS = 2**64
 HALF_TAG = 2**32
 URGENT = 2**63
 MARK = "!"
+EMPTY = "empty"
 
 UNKNOWN_KIND = 19
 CUT_RECORD = 20
@@ -317,10 +318,15 @@ def refusal_text(number):
 
 
 def entry_text(entry):
+    """An entry of a log: its tag, or that the slot is empty."""
+    return tag_text(entry) if entry else EMPTY
+
+
+def reported_entry(word):
     """An entry of a report as the text writes it, an empty slot as it stands; None for what is no entry."""
-    if entry == "-":
-        return entry
-    tag = decimal(entry, TAGS)
+    if word == "-":
+        return word
+    tag = decimal(word, TAGS)
     return None if tag is None else tag_text(tag)
 
 
@@ -328,16 +334,22 @@ def explain_bench(line):
     """A line of a report; behind a log with tags that the text writes otherwise, the log as the text has it."""
     bench = re.fullmatch("bench [0-9]+ (?:lit|dark) [0-9]+ (.+)", line)
     entries = bench[1].split(" ") if bench else []
-    shown = [entry_text(entry) for entry in entries]
+    shown = [reported_entry(entry) for entry in entries]
     return line if None in shown or shown == entries else f"{line}  ({' '.join(shown)})"
+
+
+def read_refusal(line):
+    """The record and the number that a line of a report says were refused, if it says so."""
+    refused = re.fullmatch("refused ([0-9]{1,9}) ([0-9]{1,9})", line)
+    return (int(refused[1]), int(refused[2])) if refused else None
 
 
 def explain_line(line, records):
     """A line of a report; behind a refusal the step that was refused, and why."""
-    refused = re.fullmatch("refused ([0-9]{1,9}) ([0-9]{1,9})", line)
+    refused = read_refusal(line)
     if not refused:
         return explain_bench(line)
-    record, refusal = int(refused[1]), int(refused[2])
+    record, refusal = refused
     if not 1 <= record <= len(records):
         raise Mistakes([f"'{line}': the file ends with record {len(records)}"])
     if refusal not in REFUSALS:
@@ -364,12 +376,26 @@ def read_readable(name, read=read_line):
     return read_text(shown_name(name), read_input(name).decode("utf-8-sig", "replace"), read)
 
 
+def records_of(data):
+    steps, broken = read_steps(data)
+    return [Record(step_text(step), step) for step in steps] + ([Record(broken.text, broken)] if broken else [])
+
+
 def read_records(name):
     """The records of a step file or, with their lines, of a text."""
-    if not name.endswith(".steps"):
-        return [Record(f"line {line}: {step_text(step)}", step) for line, step in read_readable(name).items()]
-    steps, broken = read_steps(read_input(name))
-    return [Record(step_text(step), step) for step in steps] + ([Record(broken.text, broken)] if broken else [])
+    if name.endswith(".steps"):
+        return records_of(read_input(name))
+    return [Record(f"line {line}: {step_text(step)}", step) for line, step in read_readable(name).items()]
+
+
+def read_played(arguments):
+    """The records of FILE and the lines of REPORT, if one is named."""
+    if arguments.file == arguments.report == "-":
+        raise Mistakes(["FILE and REPORT cannot both be standard input"])
+    records = read_records(arguments.file)
+    if arguments.report is None:
+        return records, None
+    return records, read_input(arguments.report).decode("ascii", "backslashreplace").splitlines()
 
 
 def pack(arguments):
@@ -387,11 +413,8 @@ def unpack(arguments):
 
 
 def explain(arguments):
-    if arguments.file == arguments.report == "-":
-        raise Mistakes(["FILE and REPORT cannot both be standard input"])
-    records = read_records(arguments.file)
-    report = read_input(arguments.report).decode("ascii", "backslashreplace")
-    explained = [explain_line(line, records) for line in report.splitlines()]
+    records, report = read_played(arguments)
+    explained = [explain_line(line, records) for line in report]
     for line in explained:
         print(line)
 
@@ -409,12 +432,15 @@ def read_arguments(about, commands):
     return parser.parse_args()
 
 
-def main(about, commands):
-    arguments = read_arguments(about, commands)
+def carry_out(arguments):
     try:
         arguments.run(arguments)
     except Mistakes as found:
         sys.exit(str(found))
+
+
+def main(about, commands):
+    carry_out(read_arguments(about, commands))
 
 
 if __name__ == "__main__":

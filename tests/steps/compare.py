@@ -75,10 +75,8 @@ def cases(run):
 def played(rehearse, data):
     """The run of a step file, held against the program's report."""
     report = subprocess.run([rehearse], input=data, capture_output=True, check=True).stdout.decode().splitlines()
-    read, broken = steps.read_steps(data)
-    records = [steps.Record("", content) for content in (*read, *([broken] if broken else []))]
     try:
-        return follow.follow(records, report)
+        return follow.follow(steps.records_of(data), report)
     except steps.Mistakes as found:
         sys.exit(f"{found}\n{data.hex()}")
 
