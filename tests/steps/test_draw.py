@@ -140,6 +140,20 @@ class OfTheWorkedSession(unittest.TestCase):
         self.assertEqual([ends[0], ends[2]], [self.drawn.width - draw.MARGIN] * 2)
 
 
+class Colours(unittest.TestCase):
+    def test_each_class_that_is_drawn_has_its_colour_on_both_papers(self):
+        picture = drawn(EXAMPLES / "left_behind.txt")
+        light, dark = picture.root.find(f"{SVG}style").text.split("@media (prefers-color-scheme: dark)")
+        colours = [dict(re.findall(r"\.(\w+) { color: (#\w+) }", sheet)) for sheet in (light, dark)]
+        styles = {style for node in picture.root.iter() for style in (node.get("class") or "").split()}
+        for name in ("paper", "ink", "faint", "slot", "proposal", "state", "vote", "notice", "refused"):
+            self.assertIn(name, styles)
+            self.assertNotEqual(*(colour[name] for colour in colours))
+        ruled = set(re.findall(r"\.(\w+)", light))
+        # these stand for no style: the arrows of a small rack, and what is not filled
+        self.assertEqual(styles - ruled, {"arrows", "empty"})
+
+
 class OfOtherRuns(trying.InFolder):
     def text(self, text, *options, name="run.txt"):
         return drawn(*options, self.file(name, text.encode()))
@@ -326,7 +340,9 @@ class Layout(unittest.TestCase):
         self.assertTrue(all(0 < y < picture.height for _, _, y, _ in picture.texts))
 
     def test_examples(self):
-        for text in sorted(EXAMPLES.glob("*.txt")):
+        texts = sorted(EXAMPLES.glob("*.txt"))
+        self.assertTrue(texts)
+        for text in texts:
             picture = drawn(text, text.with_suffix(".report"))
             self.check(picture)
             run = follow.follow(steps.read_records(str(text)))
