@@ -44,9 +44,9 @@ pub refused-later : (count : ℕ) (why : Refusal) → count ≢ 0 → Ran count 
 refused-later zero why ne = absurd (ne refl)
 refused-later (suc k) why ne = ap Ran (omega arith)
 
--- an advance that is accepted counts
-pub one-more : (count : ℕ) (e : Effect) → accepted e ≡ true → Ran (count + 1) ≡ stopped count e
-one-more zero e h = first e h
+-- an advance that is accepted counts; it is told which it is
+counts : (count : ℕ) (e : Effect) → accepted e ≡ true → Ran (count + 1) ≡ stopped count e
+counts zero e h = first e h
   where
     first : (e : Effect) → accepted e ≡ true → Ran 1 ≡ stopped 0 e
     first = elim [
@@ -58,7 +58,10 @@ one-more zero e h = first e h
       | Receive so s p d w ↦ λ h. refl
       | Halt ↦ λ h. refl
     ]
-one-more (suc k) e h = ap Ran (rw h (omega arith))
+counts (suc k) e h = ap Ran (rw h (omega arith))
+
+pub one-more : (count : ℕ) (e : Effect) {told : Effect} → e ≡ told → accepted told ≡ true → Ran (count + 1) ≡ stopped count e
+one-more count e q h = counts count e (ap accepted q ∙ h)
 
 -- no advance is left to make
 pub run-out : (N : Numbers) (strip : List ℕ) (c : ReplicaId) (t : Tables) (count : ℕ) {left : ℕ} → left ≡ 0
