@@ -1,4 +1,4 @@
-use Prim.Native.Nat.{_≤_, _<_, _+_, _*_}
+use Prim.Native.Nat.{_≤_, _<_}
 use lib.ListN.{length}
 use Rattle.model.specs.Limits.{most-phases}
 use Rattle.tables.specs.Layout.{mask-bits, Tables, record-end}
@@ -68,8 +68,8 @@ returns-2 : tie.Need-returns-2
 returns-2 c =
     let k : tie.Else1 = search in
     let after-run-state : tie.After-run-state = search in
-    first-goes _ _ _ _ (first k .advance-once .ensures) (asked k .goes-on .ensures) (2 * (called k .args .numbers .phases + 2) + 1) (omega arith)
-    (not-false _ (k .if1 .left)) (after-run-state .run-state .ensures)
+    first-goes _ _ _ _ (first k .advance-once .ensures) (asked k .goes-on .ensures) _ (omega arith) (not-false _ (k .if1 .left))
+    (after-run-state .run-state .ensures)
 
 add-left-2 : tie.Need-add-left-2
 add-left-2 c =
@@ -83,8 +83,8 @@ returns-3 : tie.Need-returns-3
 returns-3 c =
     let k : tie.Else1 = search in
     let after-run-vote : tie.After-run-vote = search in
-    first-goes _ _ _ _ (first k .advance-once .ensures) (asked k .goes-on .ensures) (2 * (called k .args .numbers .phases + 3)) (omega arith)
-    (not-false _ (k .if1 .left)) (after-run-vote .run-vote .ensures)
+    first-goes _ _ _ _ (first k .advance-once .ensures) (asked k .goes-on .ensures) _ (omega arith) (not-false _ (k .if1 .left))
+    (after-run-vote .run-vote .ensures)
 
 pub run-on-spec : {M : Type 1} → statement M
 run-on-spec =
