@@ -1,4 +1,6 @@
 // Submit, relay, begin and hear: each is judged, and what it comes to is stored. No `requires`: these are calls of the library.
+#![tactic(auto)]
+
 pub mod effect;
 
 ghost use Rattle.std.specs.Prelude.{◌≡◌};

@@ -1,4 +1,6 @@
 // What an advance comes to, round by round. Inner code: no calls of the library.
+#![tactic(auto)]
+
 pub mod notices;
 
 ghost use Rattle.std.specs.Prelude.{◌≡◌, true, false, [], ◌∷◌, ◌<◌, ◌≤◌, ◌+◌, ◌*◌, suc, leb, ltb, length};

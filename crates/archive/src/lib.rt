@@ -1,4 +1,6 @@
 // Logs laid out for the archive, by byte plane, and back. The calls of the library are `to_planes` and `to_entries`.
+#![tactic(auto)]
+
 ghost use Rattle.std.specs.Prelude.{◌≡◌, ◌*◌, ◌<◌, ◌≤◌, length};
 ghost use Rattle.model.specs.Scripts.{ended};
 ghost use Rattle.shelf.specs.Planes.{entry_bytes, plane, planes, entry_at, entry_count, entries_of};

@@ -1,4 +1,6 @@
 // Any call of a run. A crash is lent the record of the words. The call of the library is `perform`.
+#![tactic(auto)]
+
 ghost use Rattle.std.specs.Prelude.{◌≡◌};
 ghost use Rattle.tables.specs.Calls.{open_outcome, called};
 ghost use Rattle.tables.specs.Lent.{moments};

@@ -1,4 +1,6 @@
 // The conductor: it takes a level rack and makes all steps of one slot. The call of the library is `conduct`; it has no `requires`.
+#![tactic(auto)]
+
 ghost use Rattle.std.specs.Prelude.{◌<◌, ◌≡◌, false};
 ghost use Rattle.model.specs.declared.Act.TheVariants.{Relay};
 ghost use Rattle.model.specs.declared.Answer.TheVariants.{Refused};

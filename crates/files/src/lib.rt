@@ -1,8 +1,10 @@
 // Step files: what stands at a place of one, and where whoever plays it stands. The definitions and theorems are in specs/; the code
 // is in format (a record is read), reader, player (it is played), report and session (a whole file).
+#![tactic(auto)]
+
 use model::{Answer, Call, Numbers, Refusal};
 
-#[derive(Drop)]
+#[derive(Clone, Copy)]
 pub enum Found {
     End,
     // Refusal 19.
@@ -12,21 +14,21 @@ pub enum Found {
     Made(Call),
 }
 
-#[derive(Drop)]
+#[derive(Clone, Copy)]
 pub struct Read {
     pub found: Found,
     pub next: usize,
 }
 
 // Where the player stands: its place in the step file, and the numbers of the run that was opened.
-#[derive(Drop)]
+#[derive(Clone, Copy)]
 pub struct Player {
     pub at: usize,
     pub opened: bool,
     pub numbers: Numbers,
 }
 
-#[derive(Drop)]
+#[derive(Clone, Copy)]
 pub enum Said {
     // The file has ended.
     Nothing,
@@ -35,7 +37,7 @@ pub enum Said {
     Answered(Answer),
 }
 
-#[derive(Drop)]
+#[derive(Clone, Copy)]
 pub struct Played {
     pub said: Said,
     pub player: Player,

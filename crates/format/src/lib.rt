@@ -1,4 +1,6 @@
 // The format of step files: what stands at a place of one. `file_record` is a call of the library, and does the reader's work.
+#![tactic(auto)]
+
 ghost use Rattle.std.specs.Prelude.{◌≡◌, ◌+◌, ◌≤◌, length};
 ghost use Rattle.files.specs.Format.{number, step_kind, is_wide, slot_bytes, step_length, plan_at, message_at, act_at, step_at, file_record};
 ghost use Rattle.files.specs.Numbered.{found_number, found_values, record_number, record_values};

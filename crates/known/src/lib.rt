@@ -1,4 +1,6 @@
 // The known tags and their holders. Inner functions for the crates above; no call of the library is here.
+#![tactic(auto)]
+
 ghost use Rattle.std.specs.Prelude.{◌≡◌, ◌&&◌, ◌+◌, ◌<◌, ◌≤◌, eqb, length, take};
 ghost use Rattle.tables.specs.Layout.{mask_bits, has_bit, known_in};
 ghost use Rattle.tables.specs.View.{held_from};

@@ -1,5 +1,7 @@
 // Where everything stands in the lent memories: specs/Layout of the crate tables, in code. Another section, a larger record,
 // another row of a slot or a window of slots changes this file and no other. Inner code: no calls of the library.
+#![tactic(auto)]
+
 ghost use Rattle.std.specs.Prelude.{◌≡◌, true, ◌<◌, ◌-◌};
 ghost use Rattle.model.specs.Limits.{most_replicas};
 ghost use Rattle.model.specs.Rules.{phase_in};

@@ -1,4 +1,6 @@
 // Opening: a run starts on lent memories. The call of the library is `open`.
+#![tactic(auto)]
+
 mod clearing;
 
 ghost use Rattle.std.specs.Prelude.{◌≡◌, not, ◌||◌, ◌*◌, ltb};

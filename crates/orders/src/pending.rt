@@ -50,7 +50,7 @@ fn entry_place(base: usize, closed: usize, from: usize, x: u64, orders: &[u64]) 
 
 // What is found so far: the first of the pending tags, 0 if there is none, and the place in the log behind the entry that was
 // met last. Tags are often logged in the order in which they were submitted, and then the next one stands there.
-#[derive(Drop)]
+#[derive(Clone, Copy)]
 struct Search {
     first: u64,
     behind: usize,

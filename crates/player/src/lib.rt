@@ -1,4 +1,5 @@
 // The player: each record is read, refused with 19, 20 or 21, or made a call. The call of the library is `play_record`.
+#![tactic(auto)]
 
 ghost use Rattle.std.specs.Prelude.{◌≡◌};
 ghost use Rattle.model.specs.declared.Call.TheVariants.{Open};

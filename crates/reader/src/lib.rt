@@ -1,5 +1,7 @@
 // The reader of step files. The calls of the library are `next_record`, on the struct that keeps the file and its place, and
 // `read_at`, on a file and a place; `file_record` of the crate format does their work.
+#![tactic(auto)]
+
 ghost use Rattle.std.specs.Prelude.{◌≡◌};
 ghost use Rattle.files.specs.Format.{file_record};
 ghost use Rattle.files.specs.Numbered.{found_number, found_values, record_number, record_values};
@@ -8,7 +10,7 @@ use files::{Found, Read};
 use format::file_record;
 
 // "The reader keeps the lent step file and its place in it."
-#[derive(Drop)]
+#[derive(Clone, Copy)]
 pub struct Reader<'a> {
     pub file: &'a [u8],
     pub at: usize,

@@ -1,4 +1,6 @@
 // What every step but a crash asks first: refusals 3, 2, 4, 5, in this order. Inner code: no calls of the library.
+#![tactic(auto)]
+
 ghost use Rattle.std.specs.Prelude.{◌≡◌, false, length};
 ghost use Rattle.tables.specs.Bounds.{Bounds};
 ghost use Rattle.tables.specs.Checks.{lengths, long};
@@ -11,7 +13,7 @@ use model::{Numbers, Refusal};
 use tables::Lengths;
 use values::limits::numbers_limited;
 
-#[derive(Drop)]
+#[derive(Clone, Copy)]
 pub enum Vetted {
     Refused(Refusal),
     Passed,

@@ -1,4 +1,6 @@
 // The rehearsal program: a step file from standard input is played, and its report written.
+#![tactic(auto)]
+
 ghost use Rattle.std.specs.Prelude.{◌≡◌, length};
 ghost use Rattle.io.specs.Counts.{IsPrefixLen};
 ghost use Rattle.files.specs.Page.{page, print};

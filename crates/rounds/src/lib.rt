@@ -1,5 +1,7 @@
 // The steps of the conductor, each in number order, by masks of the replicas that make them: what a step leaves never changes who
 // makes the next. Inner code: no calls of the library.
+#![tactic(auto)]
+
 ghost use Rattle.std.specs.Prelude.{ℕ, ◌≤◌, ◌<◌, ◌*◌, ◌&&◌, not, false, List, [], ◌++◌, ◌≡◌, eqb};
 ghost use Rattle.model.specs.declared.Sort.TheVariants.{Proposals};
 ghost use Rattle.model.specs.Tests.{if, bit};

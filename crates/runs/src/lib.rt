@@ -1,4 +1,6 @@
 // Run on: advances, up to one that closes a slot or is refused. The call of the library is `run_on`; it has no `requires`.
+#![tactic(auto)]
+
 mod rounds;
 
 ghost use Rattle.std.specs.Prelude.{◌≡◌, ◌<◌, ◌≤◌, length};

@@ -7,7 +7,7 @@ use model::{Numbers, ReplicaId};
 use tables::Record;
 use values::answers::number_of;
 
-#[derive(Drop)]
+#[derive(Clone, Copy)]
 pub struct Halted {
     pub refusal: usize,
     pub after: Record,

@@ -21,7 +21,7 @@ use values::one_if;
 
 // The numbers of the run that was opened; all 0 after a refusal.
 #[repr(C)]
-#[derive(Drop)]
+#[derive(Clone, Copy)]
 pub struct Opened {
     pub refusal: usize,
     pub numbers: Numbers,
@@ -29,7 +29,7 @@ pub struct Opened {
 
 // How many advances were accepted; 0 after a refusal.
 #[repr(C)]
-#[derive(Drop)]
+#[derive(Clone, Copy)]
 pub struct Ran {
     pub refusal: usize,
     pub advances: usize,
@@ -37,7 +37,7 @@ pub struct Ran {
 
 // How many steps were accepted besides relays, and how many relays; both 0 after a refusal.
 #[repr(C)]
-#[derive(Drop)]
+#[derive(Clone, Copy)]
 pub struct Conducted {
     pub refusal: usize,
     pub steps: usize,
@@ -46,7 +46,7 @@ pub struct Conducted {
 
 // How many bytes of the report are written, and whether (1) a run was opened, with its numbers, else all 0.
 #[repr(C)]
-#[derive(Drop)]
+#[derive(Clone, Copy)]
 pub struct PlayedFile {
     pub written: usize,
     pub opened: usize,

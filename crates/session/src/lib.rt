@@ -1,4 +1,6 @@
 // A step file is played from its first record to its last, and its report written. The call of the library is `play`.
+#![tactic(auto)]
+
 ghost use Rattle.std.specs.Prelude.{◌≡◌, length};
 ghost use Rattle.model.specs.declared.Answer.TheVariants.{Done};
 ghost use Rattle.files.specs.declared.Said.TheVariants.{Answered};
@@ -13,7 +15,7 @@ use player::play_record;
 use report::benches::put_benches;
 use report::lines::{put_opened, put_refused};
 
-#[derive(Drop)]
+#[derive(Clone, Copy)]
 pub struct Session {
     // what the last record came to
     pub last: Played,

@@ -1,4 +1,6 @@
 // Advance, a crash on the memories, and any step as a value: `take_step`. The calls of the library have no `requires`.
+#![tactic(auto)]
+
 pub mod advances;
 pub mod crashes;
 

@@ -15,7 +15,7 @@ use model::Numbers;
 use tables::Record;
 
 // A bit for each of them, how many they are, and the slot of the last.
-#[derive(Drop)]
+#[derive(Clone, Copy)]
 pub struct Running {
     pub mask: u16,
     pub count: usize,

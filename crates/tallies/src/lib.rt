@@ -1,4 +1,6 @@
 // How many messages a replica has heard, and how many of them say a word. Inner code: no calls of the library.
+#![tactic(auto)]
+
 ghost use Rattle.std.specs.Prelude.{◌≡◌, ◌≤◌};
 ghost use Rattle.model.specs.declared.Sort.TheVariants.{Proposals};
 ghost use Rattle.model.specs.declared.Word.TheVariants.{Tag};
@@ -13,7 +15,7 @@ use values::one_if;
 use values::words::{is_sent, proposes, says, tag_of};
 
 // Of the messages heard: all, those that say 0, those that say 1.
-#[derive(Drop)]
+#[derive(Clone, Copy)]
 pub struct Count {
     pub all: usize,
     pub zeros: usize,
@@ -21,7 +23,7 @@ pub struct Count {
 }
 
 // The tag that leads so far, and by how many.
-#[derive(Drop)]
+#[derive(Clone, Copy)]
 struct Lead {
     tag: u64,
     by: usize,
