@@ -76,7 +76,7 @@ module _ (N : Numbers) (r : Rack) (strip : List ℕ) where
         let (once, ballots) = or_false (is_sent (r.sent Proposals s 0 d) || is_sent (r.sent Notices s 0 d)) _ (level.silent d l) in
         let (a, b) = or_false (is_sent (r.sent Proposals s 0 d)) _ once in
         let (v, w) = or_false (is_sent (r.sent States s 1 d)) _ (any_false phases _ ballots 0 (omega (arith, level.a_phase))) in
-        unsent_word _ (elim so [ Proposals ↦ a | States ↦ v | Votes ↦ w | Notices ↦ b ])
+        unsent_word _ (elim so as (λ k. is_sent (r.sent k s (phase_of k) d) ≡ false) [ Proposals ↦ a | States ↦ v | Votes ↦ w | Notices ↦ b ])
 
     unheard : (c : ℕ) (so : Sort) (d : ℕ) → d < n → (r.at c).inbox so s (phase_of so) d ≡ Unsent
     unheard c so d l = ⊎_elim (λ e. e) (λ e. e ∙ unsent so d l) ((level.invariant.replica c).heard so s (phase_of so) d)
