@@ -1,6 +1,6 @@
 -- What `judge` asks first is what the code asks first; and what is known behind it.
 use Prim.Native.Nat.{ℕ, ◌*◌}
-use mathlib.Core.Bool.{Bool, true, false, not, ◌||◌, or_self, or_false as or_no}
+use mathlib.Core.Bool.{Bool, true, false, not, ◌||◌, or_self, or-false as or_no}
 use mathlib.Core.List.{List, [], ◌∷◌}
 use mathlib.Core.Path.{◌≡◌, refl, sym, ◌∙◌, ap}
 use lib.Dec.{leb, ltb, eqb}
