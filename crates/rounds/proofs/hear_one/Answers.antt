@@ -1,0 +1,48 @@
+use native.Mathlib.Omega.{arith}
+use mathlib.Core.Bool.{not, true, ◌&&◌}
+use mathlib.Core.Path.{◌≡◌, ap}
+use lib.Dec.{eqb}
+use borrow.Author.Tests.{eq-eqb, ne_eqb, not-true, not-false}
+use Rattle.model.proofs.Branches.{told}
+use Rattle.model.proofs.Cases.{and_both, and_none, and_first}
+use Rattle.tables.specs.Layout.{has_bit}
+use Rattle.rounds.proofs.MadeLaws.{made_if, made_unless}
+use Rattle.rounds.proofs.HearLaws.{made_unsent, made_already, made_heard}
+use Rattle.rounds.proofs.hear_one.Goals as goal
+
+-- it is another, and running
+other : (k : tie.Else2) → let start : tie.Start = search in let a = start.args in
+    (has_bit a.running a.d && not (eqb a.d a.who)) ≡ true
+other k =
+    let after-has-bit : tie.After-has-bit = search in
+    let else1 : tie.Else1 = search in
+    and_both _ _ (told after-has-bit.has_bit.ensures (not-false _ else1.if1.left)) (ap not (ne_eqb _ _ k.if2.false))
+
+pub returns-then-not-has_bit : goal.returns-then-not-has_bit
+returns-then-not-has_bit c = (omega arith, λ strip long. made_unless _ _ _ _ (and_first _ _ (told c.has_bit.ensures (not-true _ c.if-not-has_bit.true-raw))))
+
+pub returns-then-d-who : goal.returns-then-d-who
+returns-then-d-who c = (omega arith, λ strip long. made_unless _ _ _ _ (and_none (has_bit c.args.running c.args.d) _ (ap not (eq-eqb _ _ c.if-d-who.true))))
+
+pub returns-then-not-is_sent : goal.returns-then-not-is_sent
+returns-then-not-is_sent c = (
+      omega arith,
+      λ strip long. made_if _ _ (other c) (made_unsent _ _ _ _ _ _ _ _ _ c.requires.0 c.requires.1 c.requires.2 strip long
+          c.sent_word-word.ensures (told c.is_sent.ensures (not-true _ c.if-not-is_sent.true-raw))),
+    )
+
+pub returns-then-counts_for : goal.returns-then-counts_for
+returns-then-counts_for c = (
+      omega arith,
+      λ strip long. made_if _ _ (other c) (made_already _ _ _ _ _ _ _ _ _ c.requires.0 c.requires.1 c.requires.2 strip long
+          c.sent_word-word.ensures (told c.is_sent.ensures (not-false _ c.if-not-is_sent.false-raw))
+          c.counts_for.ensures c.if-counts_for.true),
+    )
+
+pub returns : goal.returns
+returns c = (
+      omega arith,
+      λ strip long. made_if _ _ (other c) (made_heard _ _ _ _ _ _ _ _ _ c.requires.0 c.requires.1 c.requires.2 strip long
+          c.sent_word-word.ensures (told c.is_sent.ensures (not-false _ c.if-not-is_sent.false-raw))
+          c.counts_for.ensures c.if-counts_for.false c.mark_heard.ensures),
+    )
