@@ -18,6 +18,6 @@ loop-c-preserved c = let few = c.hear_if_running-count.ensures.0 in (
       omega arith,
       omega arith,
       omega arith,
-      c.hear_if_running-count.kept.1.1.1.1.1.1.0 ∙ c.loop-c.invariant.3,
+      omega arith,
       λ strip long. made_more _ _ _ _ _ (c.loop-c.invariant.4 strip long) (c.hear_if_running-count.ensures.1 strip long),
     )

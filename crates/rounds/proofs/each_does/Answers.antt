@@ -9,11 +9,10 @@ loop-c-init c = (omega arith, refl, omega arith, (refl, refl, refl), made_start 
 
 pub loop-c-preserved : goal.loop-c-preserved
 loop-c-preserved c = let few = c.one_does-count.ensures.0 in
-    let k = c.one_does-count.kept.1.1.1.1 in
-    let s = c.loop-c.invariant.3 in (
+ (
       omega arith,
       omega arith,
       omega arith,
-      (k.0 ∙ s.0, k.1.0 ∙ s.1, k.1.1.0 ∙ s.2),
+      (omega arith, omega arith, omega arith),
       made_more _ _ _ _ _ c.loop-c.invariant.4 c.one_does-count.ensures.1,
     )

@@ -18,6 +18,6 @@ loop-d-preserved c = let few = c.hear_one-count.ensures.0 in (
       omega arith,
       omega arith,
       omega arith,
-      c.hear_one-count.kept.1.1.1.1.1.1.1.0 ∙ c.loop-d.invariant.3,
+      omega arith,
       λ strip long. made_more _ _ _ _ _ (c.loop-d.invariant.4 strip long) (c.hear_one-count.ensures.1 strip long),
     )
