@@ -1,14 +1,15 @@
 // The rehearsal program: a step file from standard input is played, and its report written.
 #![tactic(auto)]
 
-ghost use Rattle.std.specs.Prelude.{◌≡◌, length};
+ghost use Rattle.std.specs.Prelude.{◌≡◌, length, IfOk};
 ghost use Rattle.io.specs.Counts.{IsPrefixLen};
 ghost use Rattle.files.specs.Page.{page, print};
 ghost use Rattle.files.specs.Rehearsal.{rehearsal};
 
-use libc::{STDIN_FILENO, STDOUT_FILENO};
 use model::Numbers;
 use session::play;
+use std::io;
+use std::io::Read;
 
 // "With tables for 7 controllers, 16 slots, 8 phases and 64 tags; larger openings get refusal 2." Document 02: 16 phases.
 fn rehearse(file: &[u8], report: &mut [u8]) -> usize
@@ -45,11 +46,26 @@ fn room() -> [u8; 1600000]
     [0; 1600000]
 }
 
+// Reads until the buffer is full or the input ends, and answers how many bytes stand at its front.
+fn read_full<R: Read>(input: &mut R, buffer: &mut [u8]) -> io::Result<usize>
+    ensures { IfOk result (λ n. IsPrefixLen n buffer.new) }
+{
+    let mut done = 0;
+    while done < buffer.len() {
+        let count = input.read(&mut buffer[done..])?;
+        if count == 0 {
+            break;
+        }
+        done += count;
+    }
+    Ok(done)
+}
+
 // "It takes the first 65,536 bytes of its input and reads no more."
-fn main() {
+fn main(rt: HostRuntime) -> io::Result<()> {
     let mut input = [0u8; 65536];
-    let count = io::read_full(STDIN_FILENO, &mut input);
+    let count = read_full(&mut rt.stdin(), &mut input)?;
     let mut report = room();
     let written = rehearse(&input[..count], &mut report);
-    io::write_all(STDOUT_FILENO, &report[..written]);
+    rt.write_all(&report[..written])
 }
