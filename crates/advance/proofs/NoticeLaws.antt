@@ -19,9 +19,9 @@ use Rattle.model.proofs.Branches.{if-true, if-false}
 use Rattle.model.proofs.Cases.{and_none}
 use Rattle.model.proofs.FirstSent.{first_none, first_alike}
 use Rattle.tables.specs.Layout.{has_row}
-use Rattle.tables.specs.View.{in_run, guarded, inbox_in}
+use Rattle.tables.specs.View.{in_run, guarded}
 use Rattle.tables.specs.Addresses.{Within, guarded_at, notice_within}
-use Rattle.messages.specs.Reach.{Reach, reading}
+use Rattle.messages.specs.Reach.{Reach}
 use Rattle.tallies.specs.Heard.{InSlot, heard_by}
 use Rattle.advance.specs.Noticed.{noticed}
 

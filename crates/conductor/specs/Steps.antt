@@ -99,8 +99,8 @@ module _ (N : Numbers) (r : Rack) (strip : List ℕ) (level : Level N r strip) w
     unfolding own_rule hear_rule Unmet apply
     hears so d there ne now said = one_step N strip _ (InRound N r so (suc d)) h
         (by now.in_slot (message N r so d) (lt-leb n d there) _ (ap
-          (hear_rule N h.rack.sent k (record { sort = sort_number so; slot = record { 0 = s }; phase = record { 0 = phase_of so }; sender = numbered d }))
-          (sort_back so)) (
+        (hear_rule N h.rack.sent k (record { sort = sort_number so; slot = record { 0 = s }; phase = record { 0 = phase_of so }; sender = numbered d }))
+        (sort_back so)) (
           or_none (leb slots s) _ (lt-leb slots s level.in_log) (ap not (phase_there so)),
           (ap not (ap is_sent said ∙ word_sent x so), (ap is_sent (now.in_slot.quiet so d there (inr (refl, le_refl d, ne))), tt)),
         )

@@ -17,7 +17,7 @@ use Rattle.tables.specs.Layout.{Tables, with_bit, known_in, record_at, record_st
 use Rattle.tables.specs.Write.{write, moved, with_change, halted, orders_held, words_held}
 use Rattle.tables.specs.Calls.{tables}
 use Rattle.messages.specs.Reach.{Reach}
-use Rattle.known.specs.Room.{Room, Acting}
+use Rattle.known.specs.Room.{Acting}
 use Rattle.effects.specs.Doable.{Doable, Ready, RecordThere, by_advance}
 
 -- an effect that is none of an advance's was not matched

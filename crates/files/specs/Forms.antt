@@ -16,7 +16,7 @@ use Rattle.model.specs.Tests.{if}
 use Rattle.model.proofs.Cases.{either, if-ind}
 use Rattle.files.specs.declared.Found.{Found}
 use Rattle.files.specs.declared.Found.TheVariants.{Unknown, Cut, Made}
-use Rattle.files.specs.Format.{number, byte, last_kind, step_kind, is_wide, slot_bytes, step_length, body_length, plan_at, message_at, act_at}
+use Rattle.files.specs.Format.{number, last_kind, step_kind, is_wide, slot_bytes, step_length, body_length, plan_at, message_at, act_at}
 use Rattle.files.specs.Format.{step_at, call_at, file_record}
 
 -- the new form of the bytes behind a kind: a second byte of the slot, 0, behind the first so many

@@ -1,7 +1,7 @@
 -- The player's tables are large enough: an opening within the limits that is not larger than the player's numbers is accepted
 -- on memories that are long enough for those.
-use Rattle.std.specs.Prelude.{ℕ, ◌+◌, ◌*◌, ◌≤◌, true, false, not, ◌||◌, List, ◌≡◌, refl, leb, ltb, length}
-use Rattle.std.proofs.Common.{arith, ◌∙◌, ap}
+use Rattle.std.specs.Prelude.{ℕ, ◌*◌, ◌≤◌, true, false, ◌||◌, List, ◌≡◌, ltb, length}
+use Rattle.std.proofs.Common.{arith}
 use Rattle.std.proofs.Math.Nat.{mul-le-mul}
 use borrow.Author.Tests.{ltb-false, le-leb, le-ltb}
 use Rattle.model.specs.declared.Numbers.{Numbers}
@@ -11,10 +11,10 @@ use Rattle.model.specs.declared.Answer.TheVariants.{Opened}
 use Rattle.model.specs.Limits.{planned, plan_limited}
 use Rattle.model.specs.TurnedAway.{unless}
 use Rattle.model.specs.Tests.{if}
-use Rattle.model.proofs.Cases.{and_both, or_false, or_none}
+use Rattle.model.proofs.Cases.{or_false}
 use Rattle.tables.specs.Layout.{Tables, message_rows, ballot_rows, words_need, orders_need, ballots_need}
 use Rattle.tables.specs.Checks.{lengths, long}
-use Rattle.tables.specs.Bounds.{Long, is_long}
+use Rattle.tables.specs.Bounds.{is_long}
 use Rattle.tables.specs.Calls.{open_rack}
 use Rattle.files.specs.Play.{too_large}
 

@@ -7,7 +7,7 @@ use Rattle.std.proofs.Common.{◌∙◌, length-set}
 use Rattle.tables.specs.declared.Record.{Record}
 use Rattle.tables.specs.Types.{Numbers, ReplicaId, Round, State, Vote, Find, Effect, Advance}
 use Rattle.model.specs.Rack.{round_in, Replica}
-use Rattle.model.specs.Scripts.{Played, play, advance, goes_on, running, RunsOn, most_advances}
+use Rattle.model.specs.Scripts.{play, advance, goes_on, running, RunsOn, most_advances}
 use Rattle.model.proofs.Cases.{round_back, clash, unless_ind, unmet_both}
 use Rattle.model.proofs.Playing.{run_ends, run_enough, run_further}
 use Rattle.safety.specs.Comes.{ByRule, by_notice, by_exchange, by_state, by_outcome_0, by_outcome_1, by_seek, by_next_phase}

@@ -15,7 +15,7 @@ use borrow.Author.Tests.{eqb-true, eqb-false, eq-eqb, ne_eqb, leb-true, leb-fals
 use Rattle.safety.specs.Types.{Numbers, Round, Idle, Exchange, State, Vote, Find, Sort, Proposals, States, Votes}
 use Rattle.safety.specs.Types.{Notices, Word, Tag, Outcome, Undecided, Decided, TooFewHeard, PhasesUsedUp, Effect, Refuse}
 use Rattle.safety.specs.Types.{Message, Act, Relay, Begin, Hear, Advance, Step}
-use Rattle.model.specs.Tests.{count, any, some}
+use Rattle.model.specs.Tests.{count, any}
 use Rattle.model.specs.Rack.{sort_number, round_of, is, is_sent, tag_of, Replica, Rack}
 use Rattle.model.specs.TurnedAway.{unless, Rule, settle}
 use Rattle.model.specs.Rules.{is_crash, logged, pending, next_tag, seen, quorum, majority, heard_count, tally}

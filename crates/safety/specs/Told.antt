@@ -15,7 +15,7 @@ use Rattle.model.specs.Rack.{apply}
 use Rattle.model.specs.Rules.{decide}
 use Rattle.model.specs.Conductor.{relay_steps, conduct_steps}
 use Rattle.model.specs.Scripts.{Script, Played, play, accepted, answered, advance, goes_on, stopped, running, most_advances, after_all, accepted_of}
-use Rattle.model.specs.History.{Taken, History, Lent, take_step, on_history, follow}
+use Rattle.model.specs.History.{Taken, History, take_step, on_history, follow}
 use Rattle.model.proofs.Cases.{clash, if-ind, unless_ind}
 use Rattle.model.proofs.Sequences.{conducts_by, conducted_by}
 

@@ -1,7 +1,7 @@
 -- "A crash step is lent one controller's record and darkens it there": a crash step on the tables is the crash of the record
 -- of the replica that it names, put back in its place.
 use Rattle.std.specs.Prelude.{ℕ, ◌+◌, ◌≤◌, ◌<◌, Bool, true, false, List, ◌≡◌, refl, ltb, eqb, length}
-use Rattle.std.proofs.Common.{sym, ◌∙◌, ap}
+use Rattle.std.proofs.Common.{sym, ap}
 use Rattle.std.proofs.lemmas.List.{set-get_or}
 use borrow.Author.Tests.{ltb-true, ltb-false, le-ltb, le-leb, lt-leb}
 use Rattle.tables.specs.Types.{Numbers, ReplicaId, Refusal, Crash, Refused}

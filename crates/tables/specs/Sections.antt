@@ -1,6 +1,6 @@
 -- The sections of a memory: two memories that agree on one. A store in another section keeps it; this one law is what the
 -- sections' being apart comes to.
-use Rattle.std.specs.Prelude.{ℕ, ◌+◌, ◌*◌, ◌≤◌, ◌<◌, List, ◌⊎◌, ◌≡◌, refl, get_or, set as store_at}
+use Rattle.std.specs.Prelude.{ℕ, ◌+◌, ◌≤◌, ◌<◌, List, ◌⊎◌, ◌≡◌, refl, get_or, set as store_at}
 use Rattle.std.proofs.Common.{arith, inl, inr, ⊎_elim, ◌∙◌, get_or-set_other}
 use Rattle.tables.specs.Types.{Numbers, Record}
 use Rattle.tables.specs.Addresses.{proposal_in}

@@ -1,4 +1,3 @@
-use lib.ListN.{length}
 use Rattle.tables.specs.Calls.{tables}
 use Rattle.acts.proofs.GateLaws.{stops_spoiled, stops_vetted, rules_vetted, admits_vetted}
 use Rattle.acts.proofs.RuleLaws.{record_asks, begin_asks, begins}

@@ -1,5 +1,4 @@
 use native.Mathlib.Omega.{arith}
-use Prim.Native.Nat.{◌-◌}
 use Rattle.archive.proofs.EntryLaws.{none_read, room, byte_read}
 use Rattle.archive.proofs.read_entry.Goals as goal
 

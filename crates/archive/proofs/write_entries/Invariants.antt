@@ -1,5 +1,4 @@
 -- `archive::write_entries` meets its contract. The loop keeps `Filling`: the entries from `left` on stand in their places. The measure is what is left.
-use Prim.Native.Nat.{◌-◌}
 use Rattle.shelf.specs.Planes.{entries_of}
 use Rattle.archive.proofs.FillLaws.{Filling}
 use Rattle.archive.proofs.write_entries.Given as goal

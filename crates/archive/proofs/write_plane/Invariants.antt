@@ -1,5 +1,4 @@
 -- `archive::write_plane` meets its contract. The loop keeps `Filling`: the bytes from `left` on stand in their places. The measure is what is left.
-use Prim.Native.Nat.{◌-◌}
 use lib.ListN.{length}
 use Rattle.shelf.specs.Planes.{plane}
 use Rattle.archive.proofs.FillLaws.{Filling}

@@ -1,5 +1,4 @@
 use native.Mathlib.Omega.{arith}
-use Prim.Native.Nat.{◌-◌}
 use Rattle.archive.proofs.PlaneLaws.{none_stored, plane_stored}
 use Rattle.archive.proofs.write_planes.Goals as goal
 

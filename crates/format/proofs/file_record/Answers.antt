@@ -15,22 +15,22 @@ returns-then-kind-gt-LAST_KIND c = told_all _ _ (rw (lt-leb _ _ c.if-file-at.fal
 pub returns-then-file-at-2 : goal.returns-then-file-at-2
 unfolding file_record if
 returns-then-file-at-2 c = told_all _ _ (rw (
-      lt-leb _ _ c.if-file-at.false,
-      le-ltb _ _ c.if-kind-gt-LAST_KIND.false,
-      ← c.step_kind-step.ensures,
-      ← c.is_wide-wide.ensures,
-      ← c.step_length-body.ensures,
-      lt-ltb _ _ c.if-file-at-2.true,
-    ))
+  lt-leb _ _ c.if-file-at.false,
+  le-ltb _ _ c.if-kind-gt-LAST_KIND.false,
+  ← c.step_kind-step.ensures,
+  ← c.is_wide-wide.ensures,
+  ← c.step_length-body.ensures,
+  lt-ltb _ _ c.if-file-at-2.true,
+))
 
 pub returns : goal.returns
 unfolding file_record if
 returns c = told_all _ _ (rw (
-      lt-leb _ _ c.if-file-at.false,
-      le-ltb _ _ c.if-kind-gt-LAST_KIND.false,
-      ← c.step_kind-step.ensures,
-      ← c.is_wide-wide.ensures,
-      ← c.step_length-body.ensures,
-      le-ltb _ _ c.if-file-at-2.false,
-      ← c.step_at-call.ensures,
-    ))
+  lt-leb _ _ c.if-file-at.false,
+  le-ltb _ _ c.if-kind-gt-LAST_KIND.false,
+  ← c.step_kind-step.ensures,
+  ← c.is_wide-wide.ensures,
+  ← c.step_length-body.ensures,
+  le-ltb _ _ c.if-file-at-2.false,
+  ← c.step_at-call.ensures,
+))

@@ -1,5 +1,4 @@
 use native.Mathlib.Omega.{arith}
-use Prim.Native.Nat.{◌-◌}
 use Rattle.known.proofs.TagLaws.{held_before, held_later, held_here}
 use Rattle.known.proofs.held_from.Goals as goal
 

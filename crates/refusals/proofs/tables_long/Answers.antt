@@ -13,9 +13,9 @@ returns-then-lengths-orders_need c = rw (← c.words_need.ensures, le-leb _ _ c.
 pub returns : goal.returns
 unfolding long
 returns c = rw (
-      ← c.words_need.ensures,
-      le-leb _ _ c.if-lengths-words_need.false,
-      ← c.orders_need.ensures,
-      le-leb _ _ c.if-lengths-orders_need.false,
-      ← c.ballots_need.ensures,
-    )
+  ← c.words_need.ensures,
+  le-leb _ _ c.if-lengths-words_need.false,
+  ← c.orders_need.ensures,
+  le-leb _ _ c.if-lengths-orders_need.false,
+  ← c.ballots_need.ensures,
+)

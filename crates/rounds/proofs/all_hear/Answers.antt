@@ -1,6 +1,5 @@
-use Prim.Native.Nat.{◌-◌}
 use native.Mathlib.Omega.{arith}
-use mathlib.Core.Path.{refl, ◌∙◌}
+use mathlib.Core.Path.{refl}
 use Rattle.rounds.proofs.HearLaws.{some_strip, some_long}
 use Rattle.rounds.proofs.MadeLaws.{made_start, made_more}
 use Rattle.rounds.proofs.FineLaws.{calm_all_hear, ready_on}
@@ -15,9 +14,9 @@ hear_if_running-count-requires c = let N = c.args.numbers in
 
 pub loop-c-preserved : goal.loop-c-preserved
 loop-c-preserved c = let few = c.hear_if_running-count.ensures.0 in (
-      omega arith,
-      omega arith,
-      omega arith,
-      omega arith,
-      λ strip long. made_more _ _ _ _ _ (c.loop-c.invariant.4 strip long) (c.hear_if_running-count.ensures.1 strip long),
-    )
+  omega arith,
+  omega arith,
+  omega arith,
+  omega arith,
+  λ strip long. made_more _ _ _ _ _ (c.loop-c.invariant.4 strip long) (c.hear_if_running-count.ensures.1 strip long),
+)

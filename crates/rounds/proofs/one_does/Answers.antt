@@ -11,7 +11,7 @@ returns-then-not-has_bit c = (omega arith, made_unless _ _ _ _ (told c.has_bit.e
 
 pub returns : goal.returns
 returns c = (
-      omega (arith, c.counted.ensures, one_bit (accepts c.take_step-answer.result)),
-      made_if _ _ (told c.has_bit.ensures (not-false _ c.if-not-has_bit.false-raw))
-          (made_one _ _ _ _ c.take_step-answer.ensures c.counted.ensures),
-    )
+  omega (arith, c.counted.ensures, one_bit (accepts c.take_step-answer.result)),
+  made_if _ _ (told c.has_bit.ensures (not-false _ c.if-not-has_bit.false-raw))
+      (made_one _ _ _ _ c.take_step-answer.ensures c.counted.ensures),
+)

@@ -11,13 +11,13 @@ returns-then-not-goes_on c =
 pub in_state_round-requires : goal.in_state_round-requires
 in_state_round-requires c = let a = c.args in
     let s = started _ _ _ (tables a.words.now a.orders.now a.ballots.now) c.advance_once-first.ensures c.goes_on.ensures
-        (not-false _ c.if-not-goes_on.false-raw) in
+    (not-false _ c.if-not-goes_on.false-raw) in
     (s.few, omega (arith, s.there))
 
 pub overflow_add-left : goal.overflow_add-left
 overflow_add-left c = let a = c.args in
     let s = started _ _ _ (tables a.words.now a.orders.now a.ballots.now) c.advance_once-first.ensures c.goes_on.ensures
-        (not-false _ c.if-not-goes_on.false-raw) in
+    (not-false _ c.if-not-goes_on.false-raw) in
     omega (arith, s.phases)
 
 pub run_state-requires : goal.run_state-requires
@@ -34,7 +34,7 @@ returns-then-in_state_round c =
 pub overflow_add-left-2 : goal.overflow_add-left-2
 overflow_add-left-2 c = let a = c.args in
     let s = started _ _ _ (tables a.words.now a.orders.now a.ballots.now) c.advance_once-first.ensures c.goes_on.ensures
-        (not-false _ c.if-not-goes_on.false-raw) in
+    (not-false _ c.if-not-goes_on.false-raw) in
     omega (arith, s.phases)
 
 pub run_vote-requires : goal.run_vote-requires

@@ -1,5 +1,4 @@
 use native.Mathlib.Omega.{arith}
-use Prim.Native.Nat.{◌-◌}
 use mathlib.Core.Path.{ap, ◌∙◌}
 use mathlib.Core.Bool.{true, false}
 use Rattle.model.specs.declared.Word.TheVariants.{Say}
@@ -12,33 +11,33 @@ loop-i-init c = (omega arith, search (none_so_far, arith))
 
 pub overflow_add-all : goal.overflow_add-all
 overflow_add-all c = omega (
-      arith,
-      counted_low _ c.loop-i.invariant.1.0 (c.is_sent.ensures ∙ ap is_sent c.heard_word-word.ensures) c.one_if-all.ensures,
-    )
+  arith,
+  counted_low _ c.loop-i.invariant.1.0 (c.is_sent.ensures ∙ ap is_sent c.heard_word-word.ensures) c.one_if-all.ensures,
+)
 
 pub overflow_add-zeros : goal.overflow_add-zeros
 overflow_add-zeros c = omega (
-      arith,
-      counted_low _ c.loop-i.invariant.1.1 (c.says.ensures ∙ ap (is (Say false)) c.heard_word-word.ensures)
-          c.one_if-zeros.ensures,
-    )
+  arith,
+  counted_low _ c.loop-i.invariant.1.1 (c.says.ensures ∙ ap (is (Say false)) c.heard_word-word.ensures)
+      c.one_if-zeros.ensures,
+)
 
 pub overflow_add-ones : goal.overflow_add-ones
 overflow_add-ones c = omega (
-      arith,
-      counted_low _ c.loop-i.invariant.1.2 (c.says-in-loop-i.ensures ∙ ap (is (Say true)) c.heard_word-word.ensures)
-          c.one_if-ones.ensures,
-    )
+  arith,
+  counted_low _ c.loop-i.invariant.1.2 (c.says-in-loop-i.ensures ∙ ap (is (Say true)) c.heard_word-word.ensures)
+      c.one_if-ones.ensures,
+)
 
 pub loop-i-preserved : goal.loop-i-preserved
 loop-i-preserved c = (
-      omega arith,
-      (
-        counted _ c.loop-i.invariant.1.0 (c.is_sent.ensures ∙ ap is_sent c.heard_word-word.ensures)
-            c.one_if-all.ensures,
-        counted _ c.loop-i.invariant.1.1 (c.says.ensures ∙ ap (is (Say false)) c.heard_word-word.ensures)
-            c.one_if-zeros.ensures,
-        counted _ c.loop-i.invariant.1.2 (c.says-in-loop-i.ensures ∙ ap (is (Say true)) c.heard_word-word.ensures)
-            c.one_if-ones.ensures,
-      ),
-    )
+  omega arith,
+  (
+    counted _ c.loop-i.invariant.1.0 (c.is_sent.ensures ∙ ap is_sent c.heard_word-word.ensures)
+        c.one_if-all.ensures,
+    counted _ c.loop-i.invariant.1.1 (c.says.ensures ∙ ap (is (Say false)) c.heard_word-word.ensures)
+        c.one_if-zeros.ensures,
+    counted _ c.loop-i.invariant.1.2 (c.says-in-loop-i.ensures ∙ ap (is (Say true)) c.heard_word-word.ensures)
+        c.one_if-ones.ensures,
+  ),
+)

@@ -1,6 +1,6 @@
 use Rattle.model.specs.Rack.{tag_of}
 use Rattle.tallies.specs.Counts.{backed}
-use Prim.Native.Nat.{ℕ, ◌-◌}
+use Prim.Native.Nat.{ℕ}
 use native.Mathlib.Omega.{arith}
 use mathlib.Core.Path.{◌≡◌, sym, ap, ◌∙◌, subst}
 use Rattle.tallies.specs.Heard.{heard_by}

@@ -1,7 +1,6 @@
 use Rattle.model.proofs.Counting.{count_none}
 use Rattle.tallies.proofs.CountLaws.{counted, counted_low}
 use native.Mathlib.Omega.{arith}
-use Prim.Native.Nat.{◌-◌}
 use mathlib.Core.Path.{sym, ap, ◌∙◌}
 use Rattle.model.specs.Rack.{is}
 use Rattle.model.specs.declared.Word.TheVariants.{Tag}
@@ -12,14 +11,14 @@ loop-i-init c = (omega arith, sym (count_none _))
 
 pub overflow_add-total : goal.overflow_add-total
 overflow_add-total c = omega (
-      arith,
-      counted_low _ c.loop-i.invariant.1
-          (c.proposes.ensures ∙ ap (is (Tag c.args.tag)) c.heard_word-word.ensures) c.one_if-total.ensures,
-    )
+  arith,
+  counted_low _ c.loop-i.invariant.1
+      (c.proposes.ensures ∙ ap (is (Tag c.args.tag)) c.heard_word-word.ensures) c.one_if-total.ensures,
+)
 
 pub loop-i-preserved : goal.loop-i-preserved
 loop-i-preserved c = (
-      omega arith,
-      counted _ c.loop-i.invariant.1 (c.proposes.ensures ∙ ap (is (Tag c.args.tag)) c.heard_word-word.ensures)
-          c.one_if-total.ensures,
-    )
+  omega arith,
+  counted _ c.loop-i.invariant.1 (c.proposes.ensures ∙ ap (is (Tag c.args.tag)) c.heard_word-word.ensures)
+      c.one_if-total.ensures,
+)

@@ -1,5 +1,4 @@
 use native.Mathlib.Omega.{arith}
-use Prim.Native.Nat.{◌-◌}
 use Rattle.model.proofs.Branches.{told}
 use Rattle.advance.proofs.NoticeLaws.{one_past, found, all_past, of_notices}
 use borrow.Author.Rules.{rules}

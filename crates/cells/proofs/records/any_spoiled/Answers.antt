@@ -1,6 +1,5 @@
 use mathlib.Core.Bool.{◌||◌}
 use native.Mathlib.Omega.{arith}
-use Prim.Native.Nat.{◌-◌}
 use mathlib.Core.Path.{◌≡◌, sym, ◌∙◌, ap₂}
 use Rattle.tables.specs.Checks.{any_spoiled}
 use Rattle.model.proofs.Branches.{told}

@@ -1,5 +1,4 @@
 use native.Mathlib.Omega.{arith}
-use Prim.Native.Nat.{◌-◌}
 use Rattle.orders.proofs.PendingLaws.{first_more, first_is}
 use Rattle.orders.proofs.pending.next_tag.Goals as goal
 

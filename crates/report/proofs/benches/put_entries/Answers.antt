@@ -1,4 +1,3 @@
-use Prim.Native.Nat.{◌-◌}
 use mathlib.Core.Path.{refl}
 use native.Mathlib.Omega.{arith}
 use Rattle.report.proofs.BenchLaws.{no_entry, entry_more}
@@ -9,7 +8,7 @@ loop-s-init c = (omega arith, refl, search no_entry)
 
 pub loop-s-preserved : goal.loop-s-preserved
 loop-s-preserved c = (
-      omega arith,
-      omega arith,
-      entry_more _ _ _ _ c.loop-s.invariant.2 c.entry_at-x.ensures c.put_entry-end.ensures,
-    )
+  omega arith,
+  omega arith,
+  entry_more _ _ _ _ c.loop-s.invariant.2 c.entry_at-x.ensures c.put_entry-end.ensures,
+)

@@ -1,4 +1,3 @@
-use Prim.Native.Nat.{◌-◌}
 use mathlib.Core.Path.{refl}
 use native.Mathlib.Omega.{arith}
 use Rattle.report.proofs.PageLaws.{nothing, more}
@@ -9,7 +8,7 @@ loop-i-init c = (omega arith, refl, search nothing)
 
 pub loop-i-preserved : goal.loop-i-preserved
 loop-i-preserved c = (
-      omega arith,
-      omega arith,
-      more _ _ _ c.loop-i-test.true c.loop-i.invariant.2 c.put-end.ensures,
-    )
+  omega arith,
+  omega arith,
+  more _ _ _ c.loop-i-test.true c.loop-i.invariant.2 c.put-end.ensures,
+)

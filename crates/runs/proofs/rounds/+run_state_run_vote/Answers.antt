@@ -9,13 +9,13 @@ use Rattle.runs.proofs.rounds.+run_state_run_vote.Goals as goal
 
 pub run_state-run_vote-requires : goal.run_state-run_vote-requires
 run_state-run_vote-requires t c = let a = c.args in (
-      omega arith,
-      (
-        let q = c.requires.0 in omega arith,
-        passes_again _ a.strip.now _ (tables a.words.now a.orders.now a.ballots.now) c.advance_once-effect.ensures c.goes_on.ensures
-            c.if-goes_on.true,
-      ),
-    )
+  omega arith,
+  (
+    let q = c.requires.0 in omega arith,
+    passes_again _ a.strip.now _ (tables a.words.now a.orders.now a.ballots.now) c.advance_once-effect.ensures c.goes_on.ensures
+        c.if-goes_on.true,
+  ),
+)
 
 pub run_state-returns-then-goes_on : goal.run_state-returns-then-goes_on
 run_state-returns-then-goes_on t c =

@@ -1,5 +1,4 @@
 use native.Mathlib.Omega.{arith}
-use Prim.Native.Nat.{◌-◌}
 use Rattle.model.proofs.Counting.{any_none, any_past, any_found}
 use Rattle.survey.proofs.LevelLaws.{uneven_loaded}
 use Rattle.survey.proofs.level.any_uneven.Goals as goal

@@ -1,5 +1,4 @@
 use native.Mathlib.Omega.{arith}
-use Prim.Native.Nat.{◌-◌}
 use Rattle.model.proofs.Counting.{any_none, any_past, any_found}
 use Rattle.survey.proofs.LevelLaws.{of_states, behind}
 use Rattle.survey.proofs.level.has_balloted.Goals as goal

@@ -1,5 +1,4 @@
 use native.Mathlib.Omega.{arith}
-use Prim.Native.Nat.{◌-◌}
 use Rattle.survey.proofs.RunningLaws.{found_none, found_few, found_more}
 use Rattle.survey.proofs.running.find_running.Goals as goal
 

@@ -1,5 +1,4 @@
 use native.Mathlib.Omega.{arith}
-use Prim.Native.Nat.{◌-◌}
 use Rattle.survey.proofs.TagLaws.{first_none, first_more, first_all}
 use Rattle.survey.proofs.tags.common_tag.Goals as goal
 

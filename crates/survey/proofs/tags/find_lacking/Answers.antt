@@ -1,5 +1,4 @@
 use native.Mathlib.Omega.{arith}
-use Prim.Native.Nat.{◌-◌}
 use Rattle.survey.proofs.MarkLaws.{marks_more}
 use Rattle.survey.proofs.TagLaws.{lacking_all}
 use Rattle.survey.proofs.tags.find_lacking.Goals as goal
