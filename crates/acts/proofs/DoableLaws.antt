@@ -27,14 +27,16 @@ use Rattle.model.specs.Rack.{Replica}
 use Rattle.model.specs.Rules.{majority_tag, vote_of, next_state, phase_in}
 use Rattle.model.proofs.Cases.{or_false, if-ind, Unmet, unless_ind, unmet_both}
 use Rattle.safety.specs.Comes.{ByRule, by_submit, by_relay, by_begin, by_hear, by_notice, by_exchange, by_state}
-use Rattle.safety.specs.Comes.{by_outcome_0, by_outcome_1, by_seek, by_next_phase, by_find, by_crash, past}
+use Rattle.safety.specs.Comes.{by_outcome_0, by_outcome_1, by_seek, by_next_phase, by_find, by_crash}
+use Rattle.safety.proofs.Comes.{past}
 use Rattle.tables.specs.Layout.{Tables, known_in, record_end, record_at}
 use Rattle.tables.specs.Addresses.{state_in, as_vote}
 use Rattle.tables.specs.Bounds.{bounds}
 use Rattle.tables.specs.View.{view}
 use Rattle.tables.specs.Write.{word_number}
 use Rattle.tables.specs.Checks.{spoiled, record_refusals}
-use Rattle.tables.specs.Sound.{Sound, sound, record_there, own_counts, own_view, in_state, seen_stands, seen_low, noticed_low}
+use Rattle.tables.specs.Sound.{Sound, sound, record_there, own_view, in_state, seen_stands, seen_low, noticed_low}
+use Rattle.tables.proofs.Sound.{own_counts}
 use Rattle.tables.specs.Calls.{lent_refusals, judge}
 use Rattle.messages.specs.Reach.{Fitting}
 use Rattle.known.specs.Room.{Storable}

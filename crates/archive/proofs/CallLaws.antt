@@ -12,7 +12,7 @@ use Rattle.model.specs.Tests.{if}
 use Rattle.model.specs.Scripts.{ended}
 use Rattle.shelf.specs.Planes.{entry_bytes, entry_count, planes, entries_of}
 use Rattle.shelf.specs.Calls.{most_entries, most_stored, over, rearranged, to_planes, to_entries}
-use Rattle.shelf.specs.Returns.{planes_accept, entries_accept}
+use Rattle.shelf.proofs.Returns.{planes_accept, entries_accept}
 
 module _ (entries output : List ℕ) where
   pub entries_many : most_entries < length entries → ended (Refused BadPlan) output ≡ to_planes entries output

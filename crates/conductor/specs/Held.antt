@@ -9,7 +9,8 @@ use Rattle.model.specs.Rack.{Replica, Rack, start, adding, apply}
 use Rattle.model.specs.Rules.{decide}
 use Rattle.model.specs.History.{beginning, Lent, take_step, after}
 use Rattle.model.proofs.Cases.{clash, if-ind, set-ind, some_here, some_there, adding_keeps}
-use Rattle.safety.specs.Comes.{by_submit, by_relay, Comes, ruled, comes}
+use Rattle.safety.specs.Comes.{by_submit, by_relay, Comes, ruled}
+use Rattle.safety.proofs.Comes.{comes}
 use Rattle.safety.specs.Runs.{run_keeps}
 
 abbrev Known : List ℕ → ℕ → Type 0

@@ -9,7 +9,8 @@ use Rattle.model.specs.Rack.{Messages}
 use Rattle.model.proofs.Counting.{any_same}
 use Rattle.tables.specs.Layout.{has_bit, known_in, record_at, holder_cell, heard_cell, proposal_cell, log_cell}
 use Rattle.tables.specs.View.{held_from, holds, word_in, notice_in, noting, counts_for, guarded, letter, written_words, heard_words, log_in}
-use Rattle.tables.specs.Addresses.{heard_in, proposal_in, log_in_range}
+use Rattle.tables.specs.Addresses.{proposal_in, log_in_range}
+use Rattle.tables.proofs.Addresses.{heard_in}
 use Rattle.tables.specs.Sections.{record_agrees, SameHead, SameRecords, SameHolders, SameHeard, SameTags, SameProposals, SameLogs}
 use Rattle.demand.specs.Cells.{below_ext, SameInRun, guarded_ext}
 

@@ -1,26 +1,22 @@
 -- Demand 2 of any memories: what an accepted step stores is what its rule does to the rack that the memories stand for, also in memories
 -- that no run leaves, as long as they pass refusals 3 and 2; and what lies behind the part that the run needs is not touched.
 use Rattle.std.specs.Prelude.{ℕ, ◌<◌, true, List, ◌≡◌, refl}
-use Rattle.std.proofs.Common.{arith, sym, ◌∙◌, ap, subst, set-set}
-use Rattle.tables.specs.Types.{Numbers, Sort, Proposals, States, Votes, Notices, Word, Unsent, Effect, Refuse, Hold, Send, Close, Seek, Receive, Halt, Step}
+use Rattle.std.proofs.Common.{sym, ◌∙◌, ap, subst, set-set}
+use Rattle.tables.specs.Types.{Numbers, Sort, Proposals, States, Votes, Notices, Word, Unsent, Effect, Refuse, Hold, Send, Close, Seek, Receive, Halt}
 use Rattle.model.specs.Rack.{is_sent, Replica, apply}
 use Rattle.model.specs.Rules.{notice}
-use Rattle.model.specs.Scripts.{accepted}
-use Rattle.model.proofs.Cases.{clash, unless_ind, unmet_both, put_same}
-use Rattle.safety.specs.Comes.{past}
-use Rattle.tables.specs.Layout.{Tables, record_at, proposal_cell, ballot_cell, orders_need, ballots_need}
+use Rattle.model.proofs.Cases.{put_same}
+use Rattle.tables.specs.Layout.{Tables, record_at, proposal_cell, ballot_cell}
 use Rattle.tables.specs.View.{closed_in, log_in, written_words, view}
 use Rattle.tables.specs.Words.{no_word}
 use Rattle.tables.specs.Write.{word_number, proposal_stored, ballot_stored, words_sent, write}
-use Rattle.tables.specs.Addresses.{Within, guarded_at, proposal_in, ballot_in}
-use Rattle.tables.specs.Calls.{lent_refusals, judge}
+use Rattle.tables.specs.Addresses.{Within, guarded_at}
 use Rattle.tables.specs.Sound.{Sound, stands, own_view, noticed_low}
 use Rattle.demand.specs.Statement.{Untouched}
-use Rattle.demand.specs.Parts.{Part, part_stored, Parts, parts_untouched}
-use Rattle.demand.specs.Writable.{Writable, Fits, Fitting, Fresh, Placed, sendable, fits_fresh, fitting}
-use Rattle.demand.specs.Messages.{proposal_ind, ballot_ind, words_put, noting_put}
-use Rattle.demand.specs.Refine.{slot_low, refines}
-use Rattle.demand.specs.Stored.{write_parts}
+use Rattle.demand.specs.Parts.{Parts}
+use Rattle.demand.specs.Writable.{Writable, Fits, Placed, sendable}
+use Rattle.demand.specs.Messages.{words_put, noting_put}
+use Rattle.demand.specs.Refine.{slot_low}
 
 -- memories in which the message that the effect sends is not sent yet
 abbrev pub taken_back : Numbers → ℕ → Effect → Tables → Tables
@@ -35,14 +31,6 @@ taken_back N c (Close x own) t = t
 taken_back N c Seek t = t
 taken_back N c (Receive so s p d w) t = t
 taken_back N c Halt t = t
-
--- what an effect that is stored leaves
-pub record Stores (N : Numbers) (t : Tables) (c : ℕ) (e : Effect) : Type 0 where
-  -- of the rack: what the rules say
-  pub as_ruled : Fresh N (view N t) c e → view N (write N c e t) ≡ apply c e (view N t)
-  -- a message that was sent before, as in no run, is sent anew: nobody has heard it
-  pub anew : view N (write N c e t) ≡ apply c e (view N (taken_back N c e t))
-  pub behind : Untouched N t (write N c e t)
 
 -- ---- a cell that is cleared and stored
 
@@ -59,41 +47,32 @@ ballot_twice Votes i v l = set-set l i 0 v
 ballot_twice Notices i v l = refl
 
 -- a heard notice is of a slot that is open
-open_slot : (N : Numbers) (t : Tables) {c : ℕ} → c < N.n → is_sent (notice N ((view N t).at c)) ≡ true → ((view N t).at c).closed < N.slots
+pub open_slot : (N : Numbers) (t : Tables) {c : ℕ} → c < N.n → is_sent (notice N ((view N t).at c)) ≡ true → ((view N t).at c).closed < N.slots
 open_slot N t there heard =
     subst (λ (s : ℕ). s < N.slots) (sym (ap (λ (k : Replica). k.closed) (own_view N t there))) (noticed_low N t there heard)
 
 module _ (N : Numbers) (t : Tables) (fine : Sound N t) where
-  own_parts : Parts N t t
+  pub own_parts : Parts N t t
   own_parts = record {
     words = record { enough = fine.long.words; rest = refl };
     orders = record { enough = fine.long.orders; rest = refl };
     ballots = record { enough = fine.long.ballots; rest = refl };
   }
 
-  placed : (c : ℕ) → c < N.n → Placed N ((view N t).at c)
+  pub placed : (c : ℕ) → c < N.n → Placed N ((view N t).at c)
   placed c there = subst (Placed N) (sym (own_view N t there)) (stands N fine there)
 
   module _ (c : ℕ) (there : c < N.n) where
-    abbrev slot : ℕ
+    abbrev pub slot : ℕ
     slot = (record_at t.words c).slot
 
     -- a message that is sent anew, over what it was
     module _ (so : Sort) (p : ℕ) (w : Word) (ok : Fits N ((view N t).at c).closed so p w) where
-      abbrev back : Tables
+      abbrev pub back : Tables
       back = taken_back N c (Send so p w) t
 
-      inside : Within N so slot p c
+      pub inside : Within N so slot p c
       inside = record { sender = there; slot = slot_low N t c there ok.open_slot; phase = ok.phase }
-
-      parts_back : Parts N t back
-      parts_back = record {
-        words = own_parts.words;
-        orders = proposal_ind (Part (orders_need N) t.orders) so _ _ _
-            (part_stored own_parts.orders _ _ (let h = proposal_in N slot c inside.slot there in omega arith)) own_parts.orders;
-        ballots = ballot_ind (Part (ballots_need N) t.ballots) so _ _ _
-            (part_stored own_parts.ballots _ _ (ballot_in N fine.within.phases_some so _ _ _ inside)) own_parts.ballots;
-      }
 
       unsent : (view N back).sent so slot p c ≡ Unsent
       unsent = let said = written_words N t.orders t.ballots in
@@ -101,7 +80,7 @@ module _ (N : Numbers) (t : Tables) (fine : Sound N t) where
           (words_put N t.orders t.ballots fine.long.orders fine.long.ballots fine.within.phases_some so slot p c Unsent ok.plain inside
           (no_word so)) so slot p c inside ∙ put_same so slot p c Unsent _
 
-      written_over : write N c (Send so p w) back ≡ write N c (Send so p w) t
+      pub written_over : write N c (Send so p w) back ≡ write N c (Send so p w) t
       unfolding write
       written_over = λ i. record {
         words = words_sent N c so p t.words;
@@ -109,7 +88,7 @@ module _ (N : Numbers) (t : Tables) (fine : Sound N t) where
         ballots = ballot_twice so (ballot_cell N so slot p c) (word_number w) t.ballots i;
       }
 
-      sent_anew : Writable N (view N back) c (Send so p w)
+      pub sent_anew : Writable N (view N back) c (Send so p w)
       sent_anew =
           let same = ap (λ (k : Replica). k.closed) (own_view N t there) in
           let same' = ap (λ (k : Replica). k.closed) (own_view N back there) in
@@ -119,43 +98,3 @@ module _ (N : Numbers) (t : Tables) (fine : Sound N t) where
     -- what is written, whether or not a message was sent before
     abbrev Anew : Effect → Type 0
     Anew e = (view N (write N c e t) ≡ apply c e (view N (taken_back N c e t))) × Untouched N t (write N c e t)
-
-    plainly : (e : Effect) → Writable N (view N t) c e → (view N (write N c e t) ≡ apply c e (view N t)) × Untouched N t (write N c e t)
-    plainly e ok = (
-      refines N fine.within t own_parts fine.known c there e ok,
-      parts_untouched N (write_parts N fine.within t own_parts fine.known c there e ok),
-    )
-
-    anew : (e : Effect) → Fitting N (view N t) c e → Anew e
-    anew = elim [
-      | Refuse why ↦ plainly (Refuse why)
-      | Hold x ↦ plainly (Hold x)
-      | Send so p w ↦ λ ok.
-          let e = Send so p w in
-          let u = taken_back N c e t in
-          let over = written_over so p w ok in
-          let writes = sent_anew so p w ok in
-          let parts = parts_back so p w ok in (
-            ap (view N) (sym over) ∙ refines N fine.within u parts fine.known c there e writes,
-            parts_untouched N (subst (Parts N t) over (write_parts N fine.within u parts fine.known c there e writes)),
-          )
-      | Close x own ↦ plainly (Close x own)
-      | Seek ↦ plainly Seek
-      | Receive so s p d w ↦ plainly (Receive so s p d w)
-      | Halt ↦ plainly Halt
-    ]
-
-pub stores : (N : Numbers) (strip : List ℕ) (a : Step) (t : Tables) → Sound N t → accepted (judge N strip a t) ≡ true
-    → Stores N t a.who.0 (judge N strip a t)
-unfolding judge
-stores N strip a t fine = let c = a.who.0 in
-    unless_ind (λ (e : Effect). accepted e ≡ true → Stores N t c e) _ (λ why h. clash h) (λ unmet _.
-    let (_, rest) = unmet_both (lent_refusals N a t) _ unmet in
-    let (acts, rule) = past N (view N t) strip a rest in
-    let fits = fitting N fine.within (view N t) (placed N t fine) acts (open_slot N t acts.there) rule in
-    let written = anew N t fine c acts.there _ fits in
-    record {
-      as_ruled = λ fresh. (plainly N t fine c acts.there _ (fits_fresh N (view N t) c _ fits fresh)).0;
-      anew = written.0;
-      behind = written.1;
-    })

@@ -1,19 +1,16 @@
 -- Document 02, "some relay, begin, hear or advance .. is accepted, unless an advance is refused for used-up phases", by what the calls on
 -- the memories answer: number 0, or 15.
 use Rattle.std.specs.Prelude.{ℕ, ◌≤◌, ◌<◌, true, false, List, ◌⊎◌, ◌≢◌, ◌≡◌, refl}
-use Rattle.std.proofs.Common.{inl, inr}
 use Rattle.std.proofs.Math.Path.{ap}
 use Rattle.tables.specs.Types.{Numbers, ReplicaId, Idle, Effect, Refuse, Hold, Send, Close, Seek, Receive, Halt, Step, Done, PhasesUsedUp}
 use Rattle.model.specs.Tests.{count}
 use Rattle.model.specs.Answers.{answer_number}
 use Rattle.model.specs.Scripts.{play, accepted, answered, advance}
 use Rattle.model.proofs.Cases.{clash}
-use Rattle.safety.specs.Claims.{moves, LongStrip, CanMove, UsedUp}
+use Rattle.safety.specs.Claims.{moves, LongStrip}
 use Rattle.tables.specs.Layout.{Tables}
 use Rattle.tables.specs.View.{view}
 use Rattle.tables.specs.Calls.{judge, stepped}
-use Rattle.demand.specs.Lists.{Item, tables_after}
-use Rattle.demand.specs.Statement.{by_tables, Demand3}
 
 told : (e : Effect) → accepted e ≡ true → answer_number (answered Done e) ≡ 0
 told = elim [
@@ -50,12 +47,3 @@ module _ (N : Numbers) (t : Tables) where
   abbrev pub CallsOnward : Type 0
   CallsOnward = count N.n (λ c. ((view N t).at c).crashed) ≤ N.f
       → (c : ℕ) → c < N.n → ((view N t).at c).crashed ≡ false → ((view N t).at c).round ≢ Idle → CallMoves ⊎ CallUsedUp
-
-  answered_so : CanMove N (by_tables N t) ⊎ UsedUp N (by_tables N t) → CallMoves ⊎ CallUsedUp
-  answered_so (inl m) =
-      inl (record { step = m.step; counts = m.counts; accepts = λ strip long. moves_answered N strip m.step t (m.goes strip long) })
-  answered_so (inr u) = inr (record { who = u.who; refuses = λ strip long. used_up_answered N strip (advance u.who) t (u.refused strip long) })
-
--- after every list of calls of a run
-pub calls_onward : (N : Numbers) (opening first : Tables) (items : List Item) → Demand3 N opening first items → CallsOnward N (tables_after N items first)
-calls_onward N opening first items d few c there running busy = answered_so N _ (d.tables_onward few c there running busy)

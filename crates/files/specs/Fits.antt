@@ -2,7 +2,7 @@
 -- player has tables for has a line of at most 19 bytes and 21 for each slot.
 use Prim.Native.Nat.{ℕ, zero, suc, ◌+◌, ◌*◌, ◌≤◌, ◌<◌, zero-le}
 use native.Mathlib.Omega.{arith}
-use Rattle.std.proofs.Common.{le_trans, mul-suc, mul-le-mul, sym}
+use Rattle.std.proofs.Common.{sym}
 use Rattle.std.specs.Prelude.{Bool, ◌&&◌, ◌≡◌, ltb, eqb}
 use Rattle.std.proofs.Math.Bool.{true, false}
 use mathlib.Core.List.{List, ◌++◌}
@@ -15,24 +15,20 @@ use Rattle.tables.specs.Types.{NotSent, AlreadyHeard, UnknownKind, CutRecord, Ou
 use Rattle.tables.specs.Types.{NotLevel, TooFewRunning, OddLength, Conduct}
 use Rattle.model.specs.Answers.{refusal_number}
 use Rattle.model.specs.Limits.{most_slots, limited, planned, plan_limited}
-use Rattle.model.specs.Rack.{Replica}
 use Rattle.model.proofs.Branches.{if-true}
 use Rattle.model.proofs.Cases.{clash, if-ind, and_true, or_false, Unmet, unless_ind}
 use Rattle.tables.specs.Layout.{Tables}
-use Rattle.tables.specs.View.{view}
 use Rattle.tables.specs.Bounds.{Bounds, bounds}
-use Rattle.tables.specs.Sound.{slots_few}
 use Rattle.tables.specs.Calls.{OpenOutcome, opening_refusals, open_rack, called}
 use Rattle.files.specs.Text.{text, decimal}
-use Rattle.files.specs.Lines.{opened_line, refused_line, entry_text, entries_text, light, bench_line, bench_lines}
+use Rattle.files.specs.Lines.{opened_line, refused_line, entry_text, entries_text, light, bench_line}
 use Rattle.files.specs.Decimal.{digits_most, digits_few}
 use Rattle.files.specs.declared.Found.{Found}
 use Rattle.files.specs.declared.Found.TheVariants.{End, Unknown, Cut, Made}
 use Rattle.files.specs.declared.Player.{Player}
 use Rattle.files.specs.declared.Said.TheVariants.{Answered}
-use Rattle.files.specs.Play.{Turn, too_large, moved_on, place_refusals, called_in_place, turned, turn, goes_on, play, begun}
-use Rattle.files.specs.Reported.{said_line, line_on, lines, ending, fresh, whole, report}
-use Rattle.files.specs.Played.{opened_sound}
+use Rattle.files.specs.Play.{Turn, too_large, moved_on, place_refusals, called_in_place, turned, turn, goes_on, play}
+use Rattle.files.specs.Reported.{said_line, line_on, lines}
 use Rattle.files.specs.Unopened.{step_answer, run_answer, conduct_answer}
 
 -- ---- the line of a record
@@ -109,7 +105,7 @@ module _ (k : ℕ) (h : k < 100000) where
       (λ e. subst (λ (y : Turn). length (said_line k y.said) ≤ 24) (sym (if-true _ _ e)) (turn_short most x.player x.tables x.strip _ _))
       (λ _. omega arith)
 
-lines_short : (k : ℕ) (most : Numbers) (file : List ℕ) (x : Turn) → k < 100000 → length (lines k most file x) ≤ 24 * k
+pub lines_short : (k : ℕ) (most : Numbers) (file : List ℕ) (x : Turn) → k < 100000 → length (lines k most file x) ≤ 24 * k
 unfolding lines
 lines_short zero most file x h = omega arith
 lines_short (suc k) most file x h =
@@ -138,7 +134,7 @@ light_short crashed = if-ind (λ (v : List ℕ). length v ≤ 6) crashed (λ _. 
 abbrev pub bench_most : ℕ → ℕ
 bench_most slots = 19 + 21 * slots
 
-bench_short : (c : ℕ) (crashed : Bool) (slots closed : ℕ) (entry : ℕ → ℕ) → c < 100 → slots ≤ most_slots → closed ≤ slots
+pub bench_short : (c : ℕ) (crashed : Bool) (slots closed : ℕ) (entry : ℕ → ℕ) → c < 100 → slots ≤ most_slots → closed ≤ slots
     → length (bench_line c crashed closed entry) ≤ bench_most slots
 bench_short c crashed slots closed entry h few g =
     let es = entries_text closed entry in
@@ -151,17 +147,6 @@ bench_short c crashed slots closed entry h few g =
     let e₃ = length-append (decimal closed) (es ++ text "\n") in
     let e₄ = length-append es (text "\n") in omega arith
 
-benches_short : (at : ℕ → Replica) (slots : ℕ) → slots ≤ most_slots → ((c : ℕ) → (at c).closed ≤ slots)
-    → (c : ℕ) → c < 100 → length (bench_lines c at) ≤ bench_most slots * c
-unfolding bench_lines
-benches_short at slots little few zero h = omega arith
-benches_short at slots little few (suc c) h =
-    let r = at c in
-    let a = benches_short at slots little few c (omega arith) in
-    let b = bench_short c r.crashed slots r.closed r.entry (omega arith) little (few c) in
-    let d = length-append (bench_lines c at) (bench_line c r.crashed r.closed r.entry) in
-    let e : bench_most slots * suc c ≡ bench_most slots * c + bench_most slots = mul-suc (bench_most slots) c in omega arith
-
 -- ---- an opened run is no larger than the player's tables
 
 module _ (most : Numbers) where
@@ -170,10 +155,10 @@ module _ (most : Numbers) where
 
   module _ (p : Player) (next : ℕ) (fit : Fit p) (t : Tables) (strip : List ℕ) where
     -- what an answer leaves
-    abbrev Stays : Answer → Type 0
+    abbrev pub Stays : Answer → Type 0
     Stays a = Fit (moved_on p next a)
 
-    opening_fits : (q : Plan) → too_large most (Open q) ≡ false → Stays (open_rack q t strip).answer
+    pub opening_fits : (q : Plan) → too_large most (Open q) ≡ false → Stays (open_rack q t strip).answer
     unfolding open_rack Unmet
     opening_fits q small = unless_ind (λ (o : OpenOutcome). Stays o.answer) (opening_refusals q t strip) (λ why. fit)
         (λ u h. let N = planned q in
@@ -185,46 +170,3 @@ module _ (most : Numbers) where
         told_small : (a b : Bool) → a ≡ true → (a && b) ≡ false → b ≡ false
         told_small true b h e = e
         told_small false b h e = clash h
-
-    call_fits : (N : Numbers) (a : Call) → too_large most a ≡ false → Stays (called N a t strip).answer
-    unfolding called
-    call_fits N (Open q) small = opening_fits q small
-    call_fits N (Single a) small = step_answer Stays (λ why. fit) fit (λ _. fit) (λ _ _. fit) N strip t a
-    call_fits N (RunOn c) small = run_answer Stays (λ why. fit) fit (λ _. fit) (λ _ _. fit) N strip t c
-    call_fits N Conduct small = conduct_answer Stays (λ why. fit) fit (λ _. fit) (λ _ _. fit) N strip t
-
-    turn_fits : (f : Found) → Fit (turned most p t strip next f).player
-    unfolding turned called_in_place Unmet
-    turn_fits End = fit
-    turn_fits Unknown = fit
-    turn_fits Cut = fit
-    turn_fits (Made a) =
-        unless_ind (λ (o : OpenOutcome). Stays o.answer) (place_refusals most p a) (λ why. fit) (λ u. call_fits p.numbers a u.1.0)
-
--- ---- the whole report
-
-module _ (most : Numbers) (file : List ℕ) (t : Tables) (strip : List ℕ) where
-  played_fits : (k : ℕ) → Fit most (play k most file (begun fresh t strip)).player
-  unfolding play turn
-  played_fits zero = λ h. clash h
-  played_fits (suc k) = let y = play k most file (begun fresh t strip) in
-      if-ind (λ (x : Turn). Fit most x.player) (goes_on y.said) (λ _. turn_fits most y.player _ (played_fits k) y.tables y.strip _)
-      (λ _. played_fits k)
-
-  ending_short : (k : ℕ) → length (ending (play k most file (begun fresh t strip))) ≤ bench_most most.slots * most.n
-  ending_short k = let x = play k most file (begun fresh t strip) in let N = x.player.numbers in
-      if-ind (λ (v : List ℕ). length v ≤ bench_most most.slots * most.n) x.player.opened
-      (λ e.
-      let fine = opened_sound most file t strip k e in
-      let b = fine.within in
-      let (fewer, shorter) = played_fits k e in
-      le_trans (benches_short (view N x.tables).at N.slots b.slots_few (slots_few N fine) N.n (omega arith))
-      (mul-le-mul (omega arith) fewer)) (λ _. zero-le)
-
-  pub report_fits : length file < 100000 → length (report most file t strip) ≤ 24 * length file + bench_most most.slots * most.n
-  unfolding report whole
-  report_fits h =
-      let x = begun fresh t strip in
-      let a = lines_short (length file) most file x h in
-      let b = ending_short (length file) in
-      let c = length-append (lines (length file) most file x) (ending (whole most file t strip)) in omega arith

@@ -6,7 +6,7 @@ use native.Mathlib.Omega.{arith}
 use Rattle.std.specs.Prelude.{Bool, List, [], ◌∷◌, ◌++◌, ◌≡◌, ltb, eqb}
 use Rattle.std.proofs.Math.Bool.{false}
 use Rattle.std.proofs.Math.Path.{refl, ap}
-use Rattle.std.proofs.Common.{sym, ◌∙◌}
+use Rattle.std.proofs.Common.{◌∙◌}
 use Rattle.std.proofs.Math.Dec.{leb, leb-suc-suc}
 use Rattle.std.proofs.Math.ListN.{length, get_or, length-append, get_or-append}
 use Rattle.std.proofs.Math.Seq.{get_or-append_seam, get_or-append-add}
@@ -150,11 +150,3 @@ hear_forms (r ∷ []) = refl
 hear_forms (r ∷ d ∷ []) = refl
 hear_forms (r ∷ d ∷ so ∷ []) = refl
 hear_forms (r ∷ d ∷ so ∷ slot ∷ rest) = rw (leb-suc-suc (suc (suc (suc (suc (suc (length rest)))))) 5)
-
--- each in a file of its own
-module _ (old new rest : List ℕ) where
-  pub same_opening : (file_record (new ++ new_opening rest) (length new)).found ≡ (file_record (old ++ (0 ∷ rest)) (length old)).found
-  same_opening = read_there new 8 (widened opening_front rest) ∙ opening_forms rest ∙ sym (read_there old 0 rest)
-
-  pub same_hear : (file_record (new ++ new_hear rest) (length new)).found ≡ (file_record (old ++ (4 ∷ rest)) (length old)).found
-  same_hear = read_there new 9 (widened hear_front rest) ∙ hear_forms rest ∙ sym (read_there old 4 rest)

@@ -1,21 +1,15 @@
 -- What a read finds has document 01's number and values of its place in the file.
-use Prim.Native.Nat.{ℕ, zero, suc, ◌+◌, ◌-◌, ◌≤◌}
+use Prim.Native.Nat.{ℕ, zero, suc, ◌+◌, ◌≤◌}
 use native.Mathlib.Omega.{arith}
-use Rattle.std.specs.Prelude.{Bool, List, ◌∷◌, ◌≡◌, refl, leb, ltb, length}
-use Rattle.std.proofs.Common.{◌∙◌, ap}
-use borrow.Author.Tests.{leb-true, leb-false, ltb-false, le-ltb, lt-ltb}
+use Rattle.std.specs.Prelude.{Bool, List, ◌∷◌, ◌≡◌}
 use Rattle.model.specs.Tests.{if}
-use Rattle.model.specs.TurnedAway.{unless}
-use Rattle.model.proofs.Cases.{either}
-use Rattle.files.specs.declared.Read.{Read}
-use Rattle.files.specs.Format.{byte, last_kind, step_kind, is_wide, slot_bytes, body_length, act_at, step_at, file_record}
+use Rattle.files.specs.Format.{slot_bytes, act_at, step_at}
 use Rattle.files.specs.NumberLaws.{one}
-use Rattle.files.specs.Forms.{step_few}
-use Rattle.files.specs.Numbered.{call_values, found_number, found_values, record_number, widths, numbers_at, record_values}
+use Rattle.files.specs.Numbered.{call_values, widths, numbers_at}
 
 module _ (file : List ℕ) where
   -- the numbers of a body, step by step
-  made : (step : ℕ) (wide : Bool) (i : ℕ) → step ≤ 7 → call_values (step_at step wide file i) ≡ step ∷ numbers_at (widths step wide) file i
+  pub made : (step : ℕ) (wide : Bool) (i : ℕ) → step ≤ 7 → call_values (step_at step wide file i) ≡ step ∷ numbers_at (widths step wide) file i
   unfolding step_at act_at widths numbers_at if
   made zero wide i h =
       let a : i + 1 + 1 ≡ i + 2 = omega arith in
@@ -32,21 +26,3 @@ module _ (file : List ℕ) where
   made (suc (suc (suc (suc (suc (suc zero)))))) wide i h = rw (one file)
   made (suc (suc (suc (suc (suc (suc (suc zero))))))) wide i h = rw (one file)
   made (suc (suc (suc (suc (suc (suc (suc (suc step)))))))) wide i h = absurd (omega arith)
-
-  read_tells : (at : ℕ) → let f = (file_record file at).found in (found_number f ≡ record_number file at) × (found_values f ≡ record_values file at)
-  unfolding file_record record_number record_values unless if
-  read_tells at = let kind = byte file at in
-      either (leb (length file) at) (λ e. rw (e, le-ltb at (length file) (leb-true (length file) at e)) (refl, refl))
-      (λ e. rw (e, lt-ltb at (length file) (leb-false (length file) at e)) (either (ltb last_kind kind) (λ k. rw k (refl, refl))
-      (λ k. rw k (either (ltb (length file - (at + 1)) (body_length kind)) (λ c. rw c (refl, refl))
-      (λ c. rw c (refl, made (step_kind kind) (is_wide kind) (at + 1) (step_few kind (ltb-false last_kind kind k))))))))
-
-  module _ (at : ℕ) {r : Read} (e : r ≡ file_record file at) where
-    pub told_number : found_number r.found ≡ record_number file at
-    told_number = ap (λ (r : Read). found_number r.found) e ∙ (read_tells at).0
-
-    pub told_values : found_values r.found ≡ record_values file at
-    told_values = ap (λ (r : Read). found_values r.found) e ∙ (read_tells at).1
-
-    pub told_all : (r ≡ file_record file at) × (found_number r.found ≡ record_number file at) × (found_values r.found ≡ record_values file at)
-    told_all = (e, told_number, told_values)

@@ -25,4 +25,3 @@ pub mod Text
 pub mod TurnForms
 pub mod Unchanged
 pub mod Unopened
-pub mod Whole

@@ -5,7 +5,7 @@ use Rattle.std.proofs.Common.{arith, sym, ◌∙◌, subst, length-append, take-
 use Rattle.std.proofs.Math.Decide.{ℕ_discrete}
 use Rattle.std.specs.Prelude.{Bool, ◌≡◌, leb, ltb, length, take, drop}
 use Rattle.std.proofs.Math.Bool.{true, false}
-use mathlib.Core.List.{List, [], ◌∷◌, ◌++◌, append_assoc, append-nil}
+use mathlib.Core.List.{List, [], ◌∷◌, ◌++◌, append-nil}
 use Rattle.std.proofs.Math.Path.{refl, ap, ap₂}
 use Rattle.std.proofs.Math.Seq.{get_or-append_seam}
 use Rattle.std.proofs.lemmas.Bool.{lt-leb}
@@ -17,12 +17,12 @@ use Rattle.tables.specs.Layout.{Tables}
 use Rattle.files.specs.declared.Found.{Found}
 use Rattle.files.specs.declared.Found.TheVariants.{End, Unknown, Cut, Made}
 use Rattle.files.specs.Format.{last_kind, step_kind, is_wide, step_length, body_length, file_record}
-use Rattle.files.specs.Forms.{widened, opening_front, hear_front, new_opening, new_hear, found_in, read_there, by_body, opening_forms, hear_forms}
+use Rattle.files.specs.Forms.{widened, opening_front, hear_front, new_opening, new_hear, found_in, read_there}
 use Rattle.files.specs.declared.Player.{Player}
 use Rattle.files.specs.Play.{Turn, called_in_place, turned, turn, goes_on, play, begun}
-use Rattle.files.specs.TurnForms.{SameTurn, same_turns}
-use Rattle.files.specs.Reported.{said_line, line_on, lines, ending, fresh, whole, report}
-use Rattle.files.specs.Ends.{moved_to, whole_ends}
+use Rattle.files.specs.TurnForms.{SameTurn}
+use Rattle.files.specs.Reported.{line_on, lines, ending, fresh, whole, report}
+use Rattle.files.specs.Ends.{moved_to}
 
 -- record by record; the rest may stay as it is
 pub data Renewed : List ℕ → List ℕ → Type 0 where
@@ -34,21 +34,21 @@ pub data Renewed : List ℕ → List ℕ → Type 0 where
 
 -- ---- what stands at the start of some bytes
 
-unfoldable found_at : List ℕ → Found
+unfoldable pub found_at : List ℕ → Found
 found_at [] = End
 found_at (kind ∷ rest) = found_in kind rest
 
-unfoldable record_length : List ℕ → ℕ
+unfoldable pub record_length : List ℕ → ℕ
 record_length [] = 0
 record_length (kind ∷ rest) = suc (body_length kind)
 
-abbrev is_made : Found → Bool
+abbrev pub is_made : Found → Bool
 is_made End = false
 is_made Unknown = false
 is_made Cut = false
 is_made (Made a) = true
 
-read_at_rest : (before l : List ℕ) → (file_record (before ++ l) (length before)).found ≡ found_at l
+pub read_at_rest : (before l : List ℕ) → (file_record (before ++ l) (length before)).found ≡ found_at l
 unfolding found_at file_record if
 read_at_rest before [] = let long = length-append before [] in rw (le-leb (length (before ++ [])) (length before) (omega arith))
 read_at_rest before (kind ∷ rest) = read_there before kind rest
@@ -80,26 +80,16 @@ length_widened zero body h = refl
 length_widened (suc k) [] h = absurd (omega arith)
 length_widened (suc k) (x ∷ body) h = ap suc (length_widened k body (omega arith))
 
-new_opening_long : (body : List ℕ) → length body ≡ body_length 0 → length (widened opening_front body) ≡ body_length 8
+pub new_opening_long : (body : List ℕ) → length body ≡ body_length 0 → length (widened opening_front body) ≡ body_length 8
 unfolding step_kind is_wide step_length if
 new_opening_long body h = let e = length_widened opening_front body (omega arith) in omega arith
 
-new_hear_long : (body : List ℕ) → length body ≡ body_length 4 → length (widened hear_front body) ≡ body_length 9
+pub new_hear_long : (body : List ℕ) → length body ≡ body_length 4 → length (widened hear_front body) ≡ body_length 9
 unfolding step_kind is_wide step_length if
 new_hear_long body h = let e = length_widened hear_front body (omega arith) in omega arith
 
--- they are read alike
-found_alike : {l l' : List ℕ} → Renewed l l' → found_at l ≡ found_at l'
-unfolding found_at
-found_alike (as_it_is rest) = refl
-found_alike (kept kind body rest rest' h r) = by_body kind body rest h ∙ sym (by_body kind body rest' h)
-found_alike (opening body rest rest' h r) =
-    by_body 0 body rest h ∙ sym (opening_forms body) ∙ sym (by_body 8 (widened opening_front body) rest' (new_opening_long body h))
-found_alike (hear body rest rest' h r) =
-    by_body 4 body rest h ∙ sym (hear_forms body) ∙ sym (by_body 9 (widened hear_front body) rest' (new_hear_long body h))
-
 -- and behind a whole record the rest is such a file again
-record Behind (l l' : List ℕ) : Type 0 where
+pub record Behind (l l' : List ℕ) : Type 0 where
   pub front : List ℕ
   pub front' : List ℕ
   pub rest : List ℕ
@@ -124,7 +114,7 @@ parted front front' rest rest' long long' more = record {
   more = more;
 }
 
-behind : {l l' : List ℕ} → Renewed l l' → is_made (found_at l) ≡ true → Behind l l'
+pub behind : {l l' : List ℕ} → Renewed l l' → is_made (found_at l) ≡ true → Behind l l'
 unfolding found_at record_length
 behind (as_it_is []) h = clash h
 behind (as_it_is (kind ∷ rest)) h =
@@ -141,7 +131,7 @@ wider : (k : ℕ) (body rest rest' : List ℕ) → k ≤ length body → length 
 wider k body rest rest' h l =
     let a = length-append body rest in let b = length-append (widened k body) rest' in let c = length_widened k body h in omega arith
 
-no_shorter : {l l' : List ℕ} → Renewed l l' → length l ≤ length l'
+pub no_shorter : {l l' : List ℕ} → Renewed l l' → length l ≤ length l'
 unfolding step_kind is_wide step_length if
 no_shorter (as_it_is rest) = omega arith
 no_shorter (kept kind body rest rest' h r) =
@@ -149,7 +139,7 @@ no_shorter (kept kind body rest rest' h r) =
 no_shorter (opening body rest rest' h r) = let l = wider opening_front body rest rest' (omega arith) (no_shorter r) in omega arith
 no_shorter (hear body rest rest' h r) = let l = wider hear_front body rest rest' (omega arith) (no_shorter r) in omega arith
 
-nothing_added : {l l' : List ℕ} → Renewed l l' → length l ≡ 0 → l ≡ l'
+pub nothing_added : {l l' : List ℕ} → Renewed l l' → length l ≡ 0 → l ≡ l'
 nothing_added (as_it_is rest) h = refl
 nothing_added (kept kind body rest rest' long r) h = absurd (omega arith)
 nothing_added (opening body rest rest' long r) h = absurd (omega arith)
@@ -166,7 +156,7 @@ one_more most file x m k a b h =
     (if-false _ _ stopped ∙ a, ap₂ ◌++◌ b (if-false _ _ stopped) ∙ append-nil (lines k most file x))
 
 -- once playing has stopped, further turns change nothing
-stays : (most : Numbers) (file : List ℕ) (x : Turn) (k : ℕ) → goes_on (play k most file x).said ≡ false → (m : ℕ) → k ≤ m
+pub stays : (most : Numbers) (file : List ℕ) (x : Turn) (k : ℕ) → goes_on (play k most file x).said ≡ false → (m : ℕ) → k ≤ m
     → (play m most file x ≡ play k most file x) × (lines m most file x ≡ lines k most file x)
 stays most file x k h zero l = let e : k ≡ 0 = omega arith in
     (ap (λ (j : ℕ). play j most file x) (sym e), ap (λ (j : ℕ). lines j most file x) (sym e))
@@ -180,12 +170,12 @@ stays most file x k h (suc m) l = go (ℕ_discrete k (suc m)) (stays most file x
     go (no apart) so_far = let (a, b) = so_far (omega arith) in one_more most file x m k a b h
 
 -- the lines at the end
-ending_same : (x y : Turn) → SameTurn x y → ending x ≡ ending y
+pub ending_same : (x y : Turn) → SameTurn x y → ending x ≡ ending y
 ending_same x y e = rw (e.opened, e.numbers, e.tables)
 
 module _ (most : Numbers) (old new : List ℕ) (t : Tables) (strip : List ℕ) where
   -- where the two players stand: before bytes of which the ones are the others renewed
-  record Standing (x y : Turn) : Type 0 where
+  pub record Standing (x y : Turn) : Type 0 where
     pub before : List ℕ
     pub before' : List ℕ
     pub rest : List ℕ
@@ -196,7 +186,7 @@ module _ (most : Numbers) (old new : List ℕ) (t : Tables) (strip : List ℕ) w
     pub at' : y.player.at ≡ length before'
     pub renewed : Renewed rest rest'
 
-  record Together (x y : Turn) : Type 0 where
+  pub record Together (x y : Turn) : Type 0 where
     pub same : SameTurn x y
     pub standing : goes_on x.said ≡ true → Standing x y
 
@@ -210,7 +200,7 @@ module _ (most : Numbers) (old new : List ℕ) (t : Tables) (strip : List ℕ) w
   made_on p u st next (Made a) h = (refl, moved_to p next (called_in_place most p a u st).answer)
 
   -- where a player stands behind a record
-  place_behind : (file before rest : List ℕ) (p : Player) (u : Tables) (st : List ℕ) → file ≡ before ++ rest → p.at ≡ length before
+  pub place_behind : (file before rest : List ℕ) (p : Player) (u : Tables) (st : List ℕ) → file ≡ before ++ rest → p.at ≡ length before
       → goes_on (turn most file p u st).said ≡ true
       → (is_made (found_at rest) ≡ true) × ((turn most file p u st).player.at ≡ length before + record_length rest)
   unfolding turn
@@ -228,37 +218,8 @@ module _ (most : Numbers) (old new : List ℕ) (t : Tables) (strip : List ℕ) w
     abbrev other : Turn
     other = turn most new y.player y.tables y.strip
 
-    found_same : (file_record old x.player.at).found ≡ (file_record new y.player.at).found
-    found_same = let s = pair.standing more in
-        rw (s.there, s.there', s.at, s.at') (read_at_rest s.before s.rest ∙ found_alike s.renewed ∙ sym (read_at_rest s.before' s.rest'))
-
-    turn_same : SameTurn one other
-    turn_same = let e = pair.same in same_turns most old new _ _ _ _ _ _ e.opened e.numbers e.tables e.strip found_same
-
-    stand_behind : goes_on one.said ≡ true → Standing one other
-    stand_behind h =
-        let s = pair.standing more in
-        let (made, at) = place_behind old s.before s.rest x.player x.tables x.strip s.there s.at h in
-        let h' = rw turn_same.said at h in
-        let (made', at') = place_behind new s.before' s.rest' y.player y.tables y.strip s.there' s.at' h' in
-        let b = behind s.renewed made in
-        record {
-          before = s.before ++ b.front;
-          before' = s.before' ++ b.front';
-          rest = b.rest;
-          rest' = b.rest';
-          there = s.there ∙ ap (λ (l : List ℕ). s.before ++ l) b.old ∙ sym (append_assoc s.before b.front b.rest);
-          there' = s.there' ∙ ap (λ (l : List ℕ). s.before' ++ l) b.new ∙ sym (append_assoc s.before' b.front' b.rest');
-          at = let l = length-append s.before b.front in let m = b.long in omega arith;
-          at' = let l = length-append s.before' b.front' in let m = b.long' in omega arith;
-          renewed = b.more;
-        }
-
-    go_on : Together one other
-    go_on = record { same = turn_same; standing = stand_behind }
-
   -- both go on, or neither does
-  one_by_one : (b b' : Bool) {x y x' y' : Turn} → b ≡ b' → (b ≡ true → Together x' y') → Together x y → Together (if b x' x) (if b' y' y)
+  pub one_by_one : (b b' : Bool) {x y x' y' : Turn} → b ≡ b' → (b ≡ true → Together x' y') → Together x y → Together (if b x' x) (if b' y' y)
   unfolding if
   one_by_one true true e more pair = more refl
   one_by_one true false e more pair = clash (sym e)
@@ -272,46 +233,8 @@ module _ (most : Numbers) (old new : List ℕ) (t : Tables) (strip : List ℕ) w
     abbrev of_new : ℕ → Turn
     of_new k = play k most new (begun fresh t strip)
 
-    together : (k : ℕ) → Together (of_old k) (of_new k)
-    unfolding play
-    together zero = record {
-      same = record { said = refl; number = refl; values = refl; opened = refl; numbers = refl; tables = refl; strip = refl };
-      standing = λ _. record { before = []; before' = []; rest = old; rest' = new; there = refl; there' = refl; at = refl; at' = refl; renewed = renewed };
-    }
-    together (suc k) = let pair = together k in
-        one_by_one (goes_on (of_old k).said) (goes_on (of_new k).said) (ap goes_on pair.same.said) (go_on (of_old k) (of_new k) pair) pair
-
-    lines_same : (k : ℕ) → lines k most old (begun fresh t strip) ≡ lines k most new (begun fresh t strip)
-    unfolding lines line_on play
-    lines_same zero = refl
-    lines_same (suc k) = ap₂ ◌++◌ (lines_same k)
-        (ap₂ (λ (s s' : _). if (goes_on s) (said_line (suc k) s') []) (together k).same.said (together (suc k)).same.said)
-
     -- everything is the same at the end: the report, and what is left of everything lent
     pub record SameSession : Type 0 where
       pub reports : report most old t strip ≡ report most new t strip
       pub tables : (whole most old t strip).tables ≡ (whole most new t strip).tables
       pub strips : (whole most old t strip).strip ≡ (whole most new t strip).strip
-
-    -- the old file has ended by then, or it is empty; the new one has some turns more in which nothing happens
-    pub same_session : SameSession
-    unfolding report whole
-    same_session = either (goes_on (of_old (length old)).said) empty ended
-      where
-        empty : goes_on (of_old (length old)).said ≡ true → SameSession
-        empty h = let e = nothing_added renewed (whole_ends most old t strip h) in record {
-          reports = ap (λ (l : List ℕ). report most l t strip) e;
-          tables = ap (λ (l : List ℕ). (whole most l t strip).tables) e;
-          strips = ap (λ (l : List ℕ). (whole most l t strip).strip) e;
-        }
-
-        ended : goes_on (of_old (length old)).said ≡ false → SameSession
-        ended h =
-            let k = length old in
-            let e = (together k).same in
-            let still = stays most new (begun fresh t strip) k (ap goes_on (sym e.said) ∙ h) (length new) (no_shorter renewed) in
-            record {
-              reports = ap₂ ◌++◌ (lines_same k ∙ sym still.1) (ending_same (of_old k) (of_new k) e ∙ sym (ap ending still.0));
-              tables = e.tables ∙ sym (ap (λ (x : Turn). x.tables) still.0);
-              strips = e.strip ∙ sym (ap (λ (x : Turn). x.strip) still.0);
-            }

@@ -2,7 +2,7 @@
 -- refusal's, be it 19, 20, 21, 2 of an opening that is too large or the call's own, everything lent is as it was, and so is
 -- the run; the player's place alone may move on.
 use Rattle.std.specs.Prelude.{ℕ, ◌<◌, List, ◌≡◌}
-use Rattle.std.proofs.Common.{arith, sym, ◌∙◌, ap, subst}
+use Rattle.std.proofs.Common.{arith, ap}
 use Rattle.std.proofs.Math.Path.{refl}
 use Rattle.model.specs.declared.Numbers.{Numbers}
 use Rattle.model.specs.declared.Refusal.{Refusal}
@@ -16,11 +16,9 @@ use Rattle.tables.specs.Calls.{OpenOutcome}
 use Rattle.promises.specs.Kept.{refused_unchanged}
 use Rattle.files.specs.declared.Found.{Found}
 use Rattle.files.specs.declared.Found.TheVariants.{End, Unknown, Cut, Made}
-use Rattle.files.specs.Format.{file_record}
-use Rattle.files.specs.Numbered.{found_number, record_number}
-use Rattle.files.specs.FoundLaws.{told_number}
+use Rattle.files.specs.Numbered.{found_number}
 use Rattle.files.specs.declared.Player.{Player}
-use Rattle.files.specs.Play.{Turn, moved_on, place_refusals, called_in_place, answered, turned, turn}
+use Rattle.files.specs.Play.{Turn, moved_on, place_refusals, called_in_place, answered, turned}
 
 module _ (most : Numbers) (p : Player) (t : Tables) (strip : List ℕ) where
   pub record Unchanged (x : Turn) : Type 0 where
@@ -30,15 +28,15 @@ module _ (most : Numbers) (p : Player) (t : Tables) (strip : List ℕ) where
     pub numbers : x.player.numbers ≡ p.numbers
 
   -- a call that is refused leaves what it was lent
-  abbrev Leaves : OpenOutcome → Type 0
+  abbrev pub Leaves : OpenOutcome → Type 0
   Leaves o = (why : Refusal) → o.answer ≡ Refused why → (o.tables ≡ t) × (o.strip ≡ strip)
 
-  in_place_leaves : (a : Call) → Leaves (called_in_place most p a t strip)
+  pub in_place_leaves : (a : Call) → Leaves (called_in_place most p a t strip)
   unfolding called_in_place
   in_place_leaves a = unless_ind Leaves (place_refusals most p a) (λ w why e. (refl, refl)) (λ _. refused_unchanged p.numbers a t strip)
 
   -- an answer with a refusal's number is that refusal
-  by_answer : (next : ℕ) (o : OpenOutcome) → Leaves o → (b : Answer) → o.answer ≡ b → 0 < answer_number b → Unchanged (answered p next o)
+  pub by_answer : (next : ℕ) (o : OpenOutcome) → Leaves o → (b : Answer) → o.answer ≡ b → 0 < answer_number b → Unchanged (answered p next o)
   by_answer next o leaves (Refused why) e h = let (a, b) = leaves why e in
       let same : moved_on p next o.answer ≡ moved_on p next (Refused why) = ap (moved_on p next) e in
       record { tables = a; strip_kept = b; opened = ap (λ (k : Player). k.opened) same; numbers = ap (λ (k : Player). k.numbers) same }
@@ -48,26 +46,9 @@ module _ (most : Numbers) (p : Player) (t : Tables) (strip : List ℕ) where
   by_answer next o leaves (Conducted k m) e h = absurd (omega arith)
 
   -- "A record of a step file first meets 19, 20": these are said as they are read
-  by_found : (next : ℕ) (f : Found) → 0 < found_number f → (turned most p t strip next f).number ≡ found_number f
+  pub by_found : (next : ℕ) (f : Found) → 0 < found_number f → (turned most p t strip next f).number ≡ found_number f
   unfolding turned
   by_found next End h = absurd (omega arith)
   by_found next Unknown h = refl
   by_found next Cut h = refl
   by_found next (Made a) h = absurd (omega arith)
-
-  pub read_refusal_said : (file : List ℕ) → 0 < record_number file p.at → (turn most file p t strip).number ≡ record_number file p.at
-  unfolding turn
-  read_refusal_said file h =
-      let r = file_record file p.at in
-      let e = told_number file p.at {r = r} refl in by_found r.next r.found (subst (λ (k : ℕ). 0 < k) (sym e) h) ∙ e
-
-  found_unchanged : (next : ℕ) (f : Found) → 0 < (turned most p t strip next f).number → Unchanged (turned most p t strip next f)
-  unfolding turned
-  found_unchanged next End h = absurd (omega arith)
-  found_unchanged next Unknown h = record { tables = refl; strip_kept = refl; opened = refl; numbers = refl }
-  found_unchanged next Cut h = record { tables = refl; strip_kept = refl; opened = refl; numbers = refl }
-  found_unchanged next (Made a) h = let o = called_in_place most p a t strip in by_answer next o (in_place_leaves a) o.answer refl h
-
-  pub refused_turn_unchanged : (file : List ℕ) → 0 < (turn most file p t strip).number → Unchanged (turn most file p t strip)
-  unfolding turn
-  refused_turn_unchanged file h = let r = file_record file p.at in found_unchanged r.next r.found h

@@ -9,7 +9,7 @@ use Rattle.model.specs.Tests.{some}
 use Rattle.model.specs.Rack.{Rack}
 use Rattle.model.specs.Conductor.{for_each, does, hear, hear_steps, round_steps, slot_steps, conduct_refusals, relay_steps, conduct_steps}
 use Rattle.model.specs.Scripts.{Script, done, take, look, Played, play, goes_on, running, run_on, take_all, conducting, conduct, script}
-use Rattle.model.specs.History.{Taken, History, beginning, Lent, take_step, on_history, follow, run, after, submits, submitted}
+use Rattle.model.specs.History.{Taken, History, Lent, take_step, on_history, submits, submitted}
 use Rattle.model.proofs.Cases.{clash, or_left, if-ind, unless_ind}
 use Rattle.tables.specs.Types.{Numbers, ReplicaId, Effect, Act, Relay, Begin, Advance, Step, Call, Open, Single, RunOn, Conduct}
 
@@ -26,7 +26,7 @@ handed_in x = some (λ (l : Lent). hands x l.call)
 -- ---- tests
 
 -- what the next one tells is told of what is behind it
-passed_on : (a b c d : Bool) → (d ≡ true → (a || b) ≡ true) → (d || c) ≡ true → (a || (b || c)) ≡ true
+pub passed_on : (a b c d : Bool) → (d ≡ true → (a || b) ≡ true) → (d || c) ≡ true → (a || (b || c)) ≡ true
 passed_on true b c d h e = refl
 passed_on false true c d h e = refl
 passed_on false false c true h e = clash (h refl)
@@ -99,7 +99,7 @@ module _ (x : ℕ) where
         unless_ind (λ (o : Played History). submitted o.state x ≡ submitted h x) _ (λ _. refl) (λ _. quiet_play strip (next h.rack) h (q h.rack))
 
     -- after a call no tag was submitted but before it, or by it
-    call_hands : (strip : List ℕ) (a : Call) (h : History) → submitted (play (on_history N strip) (script N a) h).state x ≡ true
+    pub call_hands : (strip : List ℕ) (a : Call) (h : History) → submitted (play (on_history N strip) (script N a) h).state x ≡ true
         → (submitted h x || hands x a) ≡ true
     unfolding play take_step some
     call_hands strip (Open q) h e = or_left _ _ e
@@ -108,15 +108,3 @@ module _ (x : ℕ) where
         (λ _ e. or_comm (submitted h x) (submits x a.act) ∙ e) (λ _. or_left _ _) e
     call_hands strip (RunOn c) h e = or_left _ _ (sym (quiet_play strip (run_on N c) h (running_quiet c _ 0)) ∙ e)
     call_hands strip Conduct h e = or_left _ _ (sym (quiet_play strip (conduct N) h (conduct_quiet N)) ∙ e)
-
-    list_hands : (calls : List Lent) (h : History) → submitted (run N calls h) x ≡ true → (submitted h x || handed_in x calls) ≡ true
-    unfolding run some
-    list_hands [] h e = or_left _ _ e
-    list_hands (l ∷ calls) h e =
-        passed_on (submitted h x) (hands x l.call) (handed_in x calls) (submitted (follow N l h).state x) (call_hands l.strip l.call h)
-        (list_hands calls (follow N l h).state e)
-
-    -- "Submitted: by an accepted submit", which stands in the list
-    pub submitted_handed : (calls : List Lent) → submitted (after N calls) x ≡ true → handed_in x calls ≡ true
-    unfolding some
-    submitted_handed calls e = list_hands calls beginning e

@@ -1,13 +1,13 @@
 -- A replica's log: the entries of its closed slots. In the memories it is one run of the orders' cells.
 use Rattle.std.specs.Prelude.{ℕ, ◌+◌, ◌*◌, ◌≤◌, ◌<◌, ◌≡◌, List, map, ltb, length, get_or, take, drop}
-use Rattle.std.proofs.Common.{sym, ap, ◌∙◌, suc-mul, mul-le-mul_right, arith, length-drop, ext_get_or, length-take-le, get_or-take, get_or-drop, ltb-true, ltb-false}
+use Rattle.std.proofs.Common.{◌∙◌, suc-mul, mul-le-mul_right, arith, length-drop, length-take-le, get_or-take, get_or-drop, ltb-true, ltb-false}
 use Rattle.std.proofs.Math.ListN.{get_or-eq_default}
 use Rattle.model.specs.Rack.{Replica}
 use Rattle.model.proofs.Cases.{either}
 use Rattle.model.proofs.Grown.{length_grown, getD_grown}
 use Rattle.tables.specs.Types.{Numbers}
 use Rattle.tables.specs.Layout.{Tables, log_cell}
-use Rattle.tables.specs.View.{closed_in, log_in, view}
+use Rattle.tables.specs.View.{closed_in, log_in}
 use Rattle.tables.specs.Addresses.{log_read}
 use Rattle.tables.specs.Sound.{Sound, own_view, slots_few}
 use Rattle.shelf.specs.Planes.{upto}
@@ -31,7 +31,7 @@ made_below g n some fit k =
 module _ (N : Numbers) {t : Tables} (fine : Sound N t) {c : ℕ} (there : c < N.n) where
   open N use {slots}
 
-  abbrev closed : ℕ
+  abbrev pub closed : ℕ
   closed = closed_in t.words c
 
   pub closed_low : closed ≤ slots
@@ -46,17 +46,9 @@ module _ (N : Numbers) {t : Tables} (fine : Sound N t) {c : ℕ} (there : c < N.
   pub length_cells : length (log_cells N t c) ≡ closed
   length_cells = length-take-le closed (drop (log_cell N c 0) t.orders) long
 
-  cell : (s : ℕ) → s < closed → get_or (log_cells N t c) s 0 ≡ log_in N t.orders c s
+  pub cell : (s : ℕ) → s < closed → get_or (log_cells N t c) s 0 ≡ log_in N t.orders c s
   cell s h =
       let next : log_cell N c 0 + s ≡ log_cell N c s = omega arith in
       let low : s < slots = omega (arith, closed_low) in
       get_or-take closed (drop (log_cell N c 0) t.orders) s 0 h ∙ get_or-drop (log_cell N c 0) t.orders s 0
       ∙ rw next (log_read N t.orders c s low)
-
-  -- they are its log, as the rules read the memories
-  pub same_log : log_cells N t c ≡ log_of ((view N t).at c)
-  same_log =
-      let grows = map_grows (log_in N t.orders c) in
-      ext_get_or 0 (log_cells N t c) (map (log_in N t.orders c) (upto closed)) (length_cells ∙ sym (length_grown grows closed))
-      (λ s h. let low : s < closed = rw length_cells at h in cell s low ∙ sym (getD_grown grows closed s low))
-      ∙ ap log_of (sym (own_view N t there))

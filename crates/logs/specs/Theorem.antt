@@ -1,28 +1,24 @@
 -- Point 7, of the logs of a run: whatever the calls were, the log of each replica is taken for the archive and comes back.
-use Rattle.std.specs.Prelude.{ℕ, ◌*◌, ◌^◌, ◌≤◌, ◌<◌, true, ◌≡◌, List, map, eqb, length, take}
-use Rattle.std.proofs.Common.{ap, ◌∙◌, arith, eqb-true}
-use Rattle.std.proofs.lemmas.Bool.{eqb-false}
+use Rattle.std.specs.Prelude.{ℕ, ◌*◌, ◌^◌, ◌≤◌, ◌<◌, true, ◌≡◌, List, map, length, take}
+use Rattle.std.proofs.Common.{ap}
 use Rattle.tables.specs.Types.{Numbers, Plan, Done, Opened}
 use Rattle.model.specs.Limits.{planned}
-use Rattle.model.specs.Rack.{Rack}
 use Rattle.model.specs.Scripts.{ended}
-use Rattle.model.specs.History.{Lent, after, closed, entry}
-use Rattle.model.proofs.Cases.{either}
+use Rattle.model.specs.History.{Lent}
 use Rattle.tables.specs.Layout.{Tables}
 use Rattle.tables.specs.Checks.{lengths}
 use Rattle.tables.specs.Calls.{open_rack}
 use Rattle.tables.specs.Bounds.{bounds, is_long}
 use Rattle.tables.specs.Sound.{Sound}
 use Rattle.demand.specs.Lists.{Item, as_lent, tables_after, OneRun}
-use Rattle.demand.specs.Openings.{accepted_opening}
+use Rattle.demand.proofs.Openings.{accepted_opening}
 use Rattle.demand.specs.Statement.{Demand3}
-use Rattle.demand.specs.Theorem.{demand_3}
+use Rattle.demand.proofs.Theorem.{demand_3}
 use Rattle.shelf.specs.Planes.{entry_bytes, planes}
 use Rattle.shelf.specs.Calls.{most_entries, over, to_planes, to_entries}
 use Rattle.shelf.specs.Layouts.{Below}
-use Rattle.shelf.specs.Returns.{planes_accept, entries_return}
-use Rattle.logs.specs.Log.{log_of, log_cells, made_below, closed_low, length_cells, same_log}
-use Rattle.logs.specs.Handed.{handed_in, submitted_handed}
+use Rattle.shelf.proofs.Returns.{planes_accept, entries_return}
+use Rattle.logs.specs.Handed.{handed_in}
 
 -- a log that the archive takes wherever there is room for it, and gives back
 pub record Archived (log : List ℕ) : Type 0 where
@@ -31,7 +27,7 @@ pub record Archived (log : List ℕ) : Type 0 where
   pub read : (output back : List ℕ) → entry_bytes * length log ≤ length output → length log ≤ length back
       → to_entries (take (entry_bytes * length log) (to_planes log output).state) back ≡ ended Done (over log back)
 
-archived : (log : List ℕ) → length log ≤ most_entries → Below (2 ^ 64) log → Archived log
+pub archived : (log : List ℕ) → length log ≤ most_entries → Below (2 ^ 64) log → Archived log
 archived log few fit = record {
   few = few;
   stored = λ output room. planes_accept log output (record { few = few; room = room });
@@ -45,41 +41,22 @@ Narrow bound calls = (x : ℕ) → handed_in x calls ≡ true → x < bound
 -- `now` are the memories after any list of calls of a run, `calls` are these as the history takes them
 module _ (q : Plan) (t : Tables) (strip : List ℕ) (accepted : (open_rack q t strip).answer ≡ Opened (planned q))
     (items : List Item) (one_run : OneRun (planned q) items (open_rack q t strip).tables) where
-  abbrev N : Numbers
+  abbrev pub N : Numbers
   N = planned q
 
-  abbrev now : Tables
+  abbrev pub now : Tables
   now = tables_after N items (open_rack q t strip).tables
 
   abbrev calls : List Lent
   calls = map as_lent items
 
-  demand : Demand3 N t (open_rack q t strip).tables items
+  pub demand : Demand3 N t (open_rack q t strip).tables items
   demand = demand_3 q t strip accepted items one_run
 
-  now_sound : Sound N now
+  pub now_sound : Sound N now
   now_sound = record {
     within = bounds N (accepted_opening q t strip accepted).0;
     known = demand.room_enough;
     unspoiled = demand.unspoiled;
     long = is_long N (lengths now) demand.long_enough;
   }
-
-  module _ (c : ℕ) (there : c < N.n) where
-    -- the cells of its log are the history's entries
-    pub log_is : log_cells N now c ≡ log_of ((after N calls).rack.at c)
-    log_is = same_log N now_sound there ∙ ap (λ (r : Rack). log_of (r.at c)) demand.same_rack
-
-    -- its entries are empty, or were handed in
-    log_below : {bound : ℕ} → 0 < bound → Narrow bound calls → Below bound (log_of ((after N calls).rack.at c))
-    log_below some narrow = made_below (entry (after N calls) c) (closed (after N calls) c) some (λ s low.
-        let x = entry (after N calls) c s in
-        either (eqb x 0) (λ e. rw (eqb-true x 0 e) some)
-        (λ e. narrow x (submitted_handed x N calls (demand.history_safe.was_submitted c s low (eqb-false x 0 e)))))
-
-    -- tags are numbers of 64 bits, as the calls take them
-    pub log_archived : Narrow (2 ^ 64) calls → Archived (log_cells N now c)
-    log_archived narrow =
-        let few = now_sound.within.slots_few in
-        archived (log_cells N now c) (rw (length_cells N now_sound there) (omega (arith, closed_low N now_sound there)))
-        (rw log_is (log_below (omega arith) narrow))

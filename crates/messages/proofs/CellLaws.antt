@@ -8,7 +8,8 @@ use Rattle.model.specs.declared.Numbers.{Numbers}
 use Rattle.model.specs.declared.Sort.{Sort}
 use Rattle.tables.specs.Layout.{proposal_cell, ballot_cell, heard_cell, log_cell, words_need, orders_need, ballots_need}
 use Rattle.tables.specs.Bounds.{Bounds}
-use Rattle.tables.specs.Addresses.{Within, proposal_in, ballot_in, heard_in, log_in_range}
+use Rattle.tables.specs.Addresses.{Within, proposal_in, log_in_range}
+use Rattle.tables.proofs.Addresses.{ballot_in, heard_in}
 
 module _ {N : Numbers} (b : Bounds N) where
   module _ {so : Sort} {s p d i : ℕ} (w : Within N so s p d) where

@@ -14,9 +14,9 @@ use Rattle.model.proofs.Cases.{clash, and_both, or_right, unless_ind}
 use Rattle.model.proofs.Counting.{any_here}
 use Rattle.tables.specs.Layout.{Tables, known_in, record_end, record_at}
 use Rattle.tables.specs.Checks.{astray, overcounted, spoiled, spoiled_at, any_spoiled}
-use Rattle.tables.specs.Calls.{CrashOutcome, crash_refusals, crashed, called}
+use Rattle.tables.specs.Calls.{CrashOutcome, crash_refusals, crashed}
 use Rattle.promises.specs.Order.{first_met, turned_away, call_refusals}
-use Rattle.promises.specs.Refusals.{crash_answers, call_answers}
+use Rattle.promises.specs.Refusals.{crash_answers}
 
 -- a call on the tables that looks at all n records: every one but an opening and a crash
 abbrev pub looks_at_all : Call → Bool
@@ -38,15 +38,12 @@ module _ (N : Numbers) where
     spoils_all = or_right (not (limited N)) _ (or_right (ltb N.room (known_in t.words)) _
         (any_here N.n (spoiled_at N t.words) c of-run (and_both _ _ (le-leb _ _ there) (overcounted_spoils _ over))))
 
-    first_is_3 : (a : Call) → looks_at_all a ≡ true → first_met (call_refusals N a t strip) ≡ just SpoiledRecord
+    pub first_is_3 : (a : Call) → looks_at_all a ≡ true → first_met (call_refusals N a t strip) ≡ just SpoiledRecord
     unfolding first_met if
     first_is_3 (Open q) h = clash h
     first_is_3 (Single a) h = rw (not-true (is_crash a.act) h, spoils_all)
     first_is_3 (RunOn c) h = rw spoils_all
     first_is_3 Conduct h = rw spoils_all
-
-    pub overcounted_refused : (a : Call) → looks_at_all a ≡ true → turned_away (called N a t strip).answer ≡ just SpoiledRecord
-    overcounted_refused a h = call_answers N a t strip ∙ first_is_3 a h
 
   -- a crash, by the one record that it is lent
   pub overcounted_not_crashed : (c : ℕ) (k : Record) → c < N.n → overcounted k ≡ true → turned_away (crashed N c k).answer ≡ just SpoiledRecord

@@ -19,23 +19,20 @@ use Rattle.model.specs.Conductor.{relay_steps, conduct_steps}
 use Rattle.model.specs.Scripts.{Script, Played, play, answered, single, advance, running, most_advances, run_on, conduct}
 use Rattle.coin.specs.Strip.{StripOutcome, strip_refusals, strip_filled}
 use Rattle.coin.specs.Law.{length_filled}
-use Rattle.model.proofs.Cases.{clash, and_true, or_false, if-ind, Unmet, unless_ind, unmet_both}
+use Rattle.model.proofs.Cases.{clash, and_true, or_false, if-ind, Unmet, unless_ind}
 use Rattle.model.proofs.Playing.{play_keeps}
 use Rattle.model.proofs.Sequences.{conducts_by, conducted_by}
-use Rattle.safety.specs.Comes.{ByRule, by_submit, by_relay, by_begin, by_hear, by_notice, by_exchange, by_state}
-use Rattle.safety.specs.Comes.{by_outcome_0, by_outcome_1, by_seek, by_next_phase, by_find, by_crash, past}
-use Rattle.tables.specs.Layout.{Tables, known_in, record_at, record_stored, heard_cell, proposal_cell}
+use Rattle.tables.specs.Layout.{Tables, known_in, record_at, record_stored, heard_cell}
 use Rattle.tables.specs.Layout.{words_need, orders_need}
 use Rattle.tables.specs.View.{only, view}
 use Rattle.tables.specs.Write.{place_in, proposal_stored, ballot_stored, orders_held, words_held, write}
 use Rattle.tables.specs.Checks.{lengths, long, tables_refusals, record_refusals}
 use Rattle.tables.specs.Calls.{CrashOutcome, crash_refusals, crashed, lent_refusals, judge, performed, on_tables}
 use Rattle.tables.specs.Calls.{stepped, ran_on, conducted, cleared, opened, OpenOutcome, opening_refusals, open_rack, called}
-use Rattle.tables.specs.Addresses.{proposal_in}
 use Rattle.tables.specs.Bounds.{is_long}
 use Rattle.tables.specs.Sections.{agree_self, agree_more, elsewhere, record_elsewhere, SameHead}
 use Rattle.tables.specs.Sections.{SameRecords, SameHolders, SameHeard, SameTags, SameProposals, SameLogs}
-use Rattle.promises.specs.Order.{turned_away, step_refusals, conductor_refusals}
+use Rattle.promises.specs.Order.{turned_away, conductor_refusals}
 use Rattle.promises.specs.Refusals.{running_accepts}
 
 -- ---- "A refusal returns its number and changes nothing at all." Of the strip call and of the
@@ -198,7 +195,7 @@ module _ (N : Numbers) (t u : Tables) where
   abbrev SameOrders : Type 0
   SameOrders = SameHead N t.words u.words × SameHolders N t.words u.words × SameTags N t.orders u.orders
 
-  abbrev HeldOnly : Type 0
+  abbrev pub HeldOnly : Type 0
   HeldOnly = SameRecords N t.words u.words × SameHeard N t.words u.words × SameProposals N t.orders u.orders
       × SameLogs N t.orders u.orders × (u.ballots ≡ t.ballots)
 
@@ -219,7 +216,7 @@ module _ (N : Numbers) (strip : List ℕ) where
   same_orders : (t : Tables) → SameOrders N t t
   same_orders t = (agree_self _, agree_self _, agree_self _)
 
-  untouched : (t : Tables) (a : Act) → TouchesOnly N t t a
+  pub untouched : (t : Tables) (a : Act) → TouchesOnly N t t a
   untouched t (Submit x) = (agree_self _, agree_self _, agree_self _, agree_self _, refl)
   untouched t (Relay x) = (agree_self _, agree_self _, agree_self _, agree_self _, refl)
   untouched t Begin = (same_orders t, agree_self _, refl)
@@ -228,13 +225,13 @@ module _ (N : Numbers) (strip : List ℕ) where
   untouched t Crash = (same_orders t, agree_self _, refl, refl)
 
   module _ (t : Tables) where
-    abbrev ws : List ℕ
+    abbrev pub ws : List ℕ
     ws = t.words
 
-    abbrev os : List ℕ
+    abbrev pub os : List ℕ
     os = t.orders
 
-    abbrev k : ℕ
+    abbrev pub k : ℕ
     k = known_in ws
 
     -- a record is stored in the section of records; a mark behind the holders
@@ -245,27 +242,27 @@ module _ (N : Numbers) (strip : List ℕ) where
       holders_kept : SameHolders N ws' (record_stored ws' c k)
       holders_kept = record_elsewhere ws' c k (inl (omega arith))
 
-      heard_kept : SameHeard N ws' (record_stored ws' c k)
+      pub heard_kept : SameHeard N ws' (record_stored ws' c k)
       heard_kept = record_elsewhere ws' c k (inl (omega arith))
 
-    marked_head : (so : Sort) (s p d v : ℕ) → SameHead N ws (store_at ws (heard_cell N so s p d) v)
+    pub marked_head : (so : Sort) (s p d v : ℕ) → SameHead N ws (store_at ws (heard_cell N so s p d) v)
     marked_head so s p d v = elsewhere ws _ v (inr (omega arith))
 
-    marked_holders : (so : Sort) (s p d v : ℕ) → SameHolders N ws (store_at ws (heard_cell N so s p d) v)
+    pub marked_holders : (so : Sort) (s p d v : ℕ) → SameHolders N ws (store_at ws (heard_cell N so s p d) v)
     marked_holders so s p d v = elsewhere ws _ v (inr (omega arith))
 
-    sends_keeps : (c : ℕ) → c < N.n → (so : Sort) (s p v : ℕ) (k : Record) {os' : List ℕ} → SameTags N os os'
+    pub sends_keeps : (c : ℕ) → c < N.n → (so : Sort) (s p v : ℕ) (k : Record) {os' : List ℕ} → SameTags N os os'
         → (SameHead N ws (record_stored (store_at ws (heard_cell N so s p c) v) c k))
         × (SameHolders N ws (record_stored (store_at ws (heard_cell N so s p c) v) c k)) × (SameTags N os os')
     sends_keeps c there so s p v k tags =
         (agree_more (marked_head so s p c v) (head_kept _ c there k), agree_more (marked_holders so s p c v) (holders_kept _ c there k), tags)
 
-    record_keeps : (c : ℕ) → c < N.n → (k : Record) {os' : List ℕ} → SameTags N os os'
+    pub record_keeps : (c : ℕ) → c < N.n → (k : Record) {os' : List ℕ} → SameTags N os os'
         → (SameHead N ws (record_stored ws c k)) × (SameHolders N ws (record_stored ws c k)) × (SameTags N os os')
     record_keeps c there k tags = (head_kept ws c there k, holders_kept ws c there k, tags)
 
     -- the checks leave known that the tags are within the room
-    hold_touches : k ≤ N.room → k ≤ length os → (c x : ℕ) → (listed x (take k os) ≡ true) ⊎ (length (take k os) < N.room)
+    pub hold_touches : k ≤ N.room → k ≤ length os → (c x : ℕ) → (listed x (take k os) ≡ true) ⊎ (length (take k os) < N.room)
         → HeldOnly N t (write N c (Hold x) t)
     unfolding write
     hold_touches few long c x fits = (
@@ -284,77 +281,26 @@ module _ (N : Numbers) (strip : List ℕ) where
         room_left : listed x (take k os) ≡ false → k < N.room
         room_left e = ⊎_elim (λ q. clash (sym e ∙ q)) (λ l. subst (λ (j : ℕ). j < N.room) (length-take-le k os long) l) fits
 
-    closing_touches : (c : ℕ) → c < N.n → (x : ℕ) (own : Bool) → TouchesOnly N t (write N c (Close x own) t) Advance
+    pub closing_touches : (c : ℕ) → c < N.n → (x : ℕ) (own : Bool) → TouchesOnly N t (write N c (Close x own) t) Advance
     unfolding write
     closing_touches c there x own = (sends_keeps c there Notices _ 0 _ _ (elsewhere os _ x (inr (omega arith))), elsewhere os _ x (inr (omega arith)))
 
-    slot_low : (c : ℕ) → c < N.n → ((view N t).at c).closed < N.slots → (record_at ws c).slot < N.slots
+    pub slot_low : (c : ℕ) → c < N.n → ((view N t).at c).closed < N.slots → (record_at ws c).slot < N.slots
     unfolding only if
     slot_low c there l = rw (lt-ltb c N.n there) at l
 
     -- what the refusals of what is lent leave known
-    lent_few : (c : ReplicaId) (a : Act) → is_crash a ≡ false → Unmet (lent_refusals N (record { who = c; act = a }) t) → (k ≤ N.room) × (k ≤ length os)
+    pub lent_few : (c : ReplicaId) (a : Act) → is_crash a ≡ false → Unmet (lent_refusals N (record { who = c; act = a }) t) → (k ≤ N.room) × (k ≤ length os)
     unfolding Unmet if
     lent_few c a e u =
         let (spoiled, (short, _)) = subst (λ (b : Bool). Unmet (if b (record_refusals N t c.0) (tables_refusals N t))) e u in
         let few = ltb-false _ _ (or_false (ltb N.room k) _ (or_false (not (limited N)) _ spoiled).1).0 in
         let enough = (is_long N (lengths t) (not-false _ short)).orders in (few, omega arith)
 
-    rule_touches : (c : ReplicaId) (a : Act) {e : Effect} → Unmet (lent_refusals N (record { who = c; act = a }) t) → c.0 < N.n
-        → ByRule N (view N t) ((view N t).at c.0) a e → TouchesOnly N t (write N c.0 e t) a
-    unfolding write
-    rule_touches c (Submit x) lent there (by_submit ne h l) = let (few, long) = lent_few c (Submit x) refl lent in hold_touches few long c.0 x l
-    rule_touches c (Relay x) lent there (by_relay ne l h) = let (few, long) = lent_few c (Relay x) refl lent in hold_touches few long c.0 x (inl l)
-    rule_touches c Begin lent there (by_begin i l ne) =
-        let low = slot_low c.0 there l in (
-          sends_keeps c.0 there Proposals _ 0 _ _ (elsewhere os _ _ (inr (omega arith))),
-          elsewhere os (proposal_cell N (record_at ws c.0).slot c.0) _
-              (inl (let h = proposal_in N (record_at ws c.0).slot c.0 low there in omega arith)),
-          refl,
-        )
-    rule_touches c (Hear m) lent there (by_hear so l s q w h) = (
-      (
-        marked_head so m.slot.0 m.phase.0 m.sender.0 _,
-        marked_holders so m.slot.0 m.phase.0 m.sender.0 _,
-        agree_self os,
-      ),
-      elsewhere ws _ _ (inr (omega arith)),
-      refl,
-      refl,
-    )
-    rule_touches c Advance lent there (by_notice heard) = closing_touches c.0 there _ false
-    rule_touches c Advance lent there (by_exchange i q) = (sends_keeps c.0 there States _ 1 _ _ (agree_self os), agree_self os)
-    rule_touches c Advance lent there (by_state i q) = (sends_keeps c.0 there Votes _ _ _ _ (agree_self os), agree_self os)
-    rule_touches c Advance lent there (by_outcome_0 v o) = closing_touches c.0 there 0 true
-    rule_touches c Advance lent there (by_outcome_1 v o ne) = closing_touches c.0 there _ true
-    rule_touches c Advance lent there (by_seek v o z) = (record_keeps c.0 there _ (agree_self os), agree_self os)
-    rule_touches c Advance lent there (by_next_phase flip v o l) = (sends_keeps c.0 there States _ _ _ _ (agree_self os), agree_self os)
-    rule_touches c Advance lent there (by_find i ne) = closing_touches c.0 there _ true
-    rule_touches c Crash lent there by_crash = (record_keeps c.0 there _ (agree_self os), heard_kept ws c.0 there _, refl, refl)
-
-  came_touches : (t : Tables) (a : Step) → TouchesOnly N t (performed N strip a t) a.act
-  unfolding judge write
-  came_touches t a = unless_ind (λ (e : Effect). TouchesOnly N t (write N a.who.0 e t) a.act) (step_refusals N strip a t)
-      (λ why. untouched t a.act) (λ u.
-      let (lent, rest) = unmet_both (lent_refusals N a t) _ u in
-      let (acts, rule) = past N (view N t) strip a rest in rule_touches t a.who a.act lent acts.there rule)
-
-  pub touches_only : (a : Step) (t : Tables) → TouchesOnly N t (stepped N strip a t).state a.act
-  unfolding stepped play
-  touches_only a t = came_touches t a
-
   -- what every advance keeps, a run on keeps
-  running_keeps : (c : ReplicaId) (P : Tables → Type 0) → ((t : Tables) → P t → P (performed N strip (advance c) t))
+  pub running_keeps : (c : ReplicaId) (P : Tables → Type 0) → ((t : Tables) → P t → P (performed N strip (advance c) t))
       → (most k : ℕ) (t : Tables) → P t → P (play (on_tables N strip) (running c most k) t).state
   unfolding running play
   running_keeps c P step zero k t p = p
   running_keeps c P step (suc most) k t p = let u = performed N strip (advance c) t in let q = step t p in
       if-ind (λ (x : Script). P (play (on_tables N strip) x u).state) _ (λ _. running_keeps c P step most (suc k) u q) (λ _. q)
-
-  pub run_on_touches_only : (c : ReplicaId) (t : Tables) → TouchesOnly N t (ran_on N strip c t).state Advance
-  unfolding ran_on
-  run_on_touches_only c t = running_keeps c (λ (u : Tables). TouchesOnly N t u Advance) further (most_advances N) 0 t (untouched t Advance)
-    where
-      further : (u : Tables) → TouchesOnly N t u Advance → TouchesOnly N t (performed N strip (advance c) u) Advance
-      further u h = let k = came_touches u (advance c) in
-          ((agree_more h.0.0 k.0.0, agree_more h.0.1 k.0.1, agree_more h.0.2 k.0.2), agree_more h.1 k.1)

@@ -50,7 +50,7 @@ at_slot N r (suc k) l = go (is_running N r k) refl l (at_slot N r k)
 module _ (N : Numbers) (t : Tables) where
   open N use {n, slots, phases}
 
-  abbrev r : Rack
+  abbrev pub r : Rack
   r = view N t
 
   -- what nobody of the run has sent, nobody has
@@ -83,7 +83,7 @@ module _ (N : Numbers) (t : Tables) where
     nobody_spoke so p d = (not_sent _).0 (ap not (either (is_sent (r.sent so s p d)) (λ e. unheard so p d (guarded_sent N _ e)) (λ e. e)))
 
   module _ (some : 0 < running_count N r) where
-    abbrev s : ℕ
+    abbrev pub s : ℕ
     s = common_slot N r
 
     abbrev first : AtSlot N r n s
@@ -96,28 +96,25 @@ module _ (N : Numbers) (t : Tables) where
         let (a, b) = and_true (same_round (r.at c).round Idle) _ (not-false _ (fails (is_running N r c) _ on none)) in
         (same_round_true _ Idle a, eqb-true _ _ b)
 
-    is_level : level N r s ≡ true → Level N r
+    pub is_level : level N r s ≡ true → Level N r
     is_level e = record {
       idle = λ c l on. (even e c l on).0;
       one_slot = λ c d l m on also. (even e c l on).1 ∙ sym (even e d m also).1;
       silent = λ c l on so p d. rw (even e c l on).1 (nobody_spoke s (not-true _ (and_true (not (any n (uneven N r s))) _ e).1) so p d);
     }
 
-    all_even : Level N r → any n (uneven N r s) ≡ false
+    pub all_even : Level N r → any n (uneven N r s) ≡ false
     all_even h = any_nowhere n _ (λ c l. either (is_running N r c)
         (λ on. and_none (is_running N r c) _ (ap not (and_both (same_round (r.at c).round Idle) _ (ap (λ a. same_round a Idle) (h.idle c l on))
         (eq-eqb _ _ (h.one_slot c first.who l first.low on first.running ∙ first.there)))))
         (λ off. ap (λ (b : Bool). b && not (same_round (r.at c).round Idle && eqb (r.at c).closed s)) off))
 
-    all_silent : Level N r → any n (spoke N r s) ≡ false
+    pub all_silent : Level N r → any n (spoke N r s) ≡ false
     all_silent h = any_nowhere n _ (λ d l. or_none _ _ (or_none _ _ (unsent Proposals 0 d) (unsent Notices 0 d))
         (any_nowhere phases _ (λ p m. or_none _ _ (unsent States (suc p) d) (unsent Votes (suc p) d))))
       where
         unsent : (so : Sort) (p d : ℕ) → is_sent (r.sent so s p d) ≡ false
         unsent so p d = ap is_sent (ap (λ (u : ℕ). r.sent so u p d) (sym first.there) ∙ h.silent first.who first.low first.running so p d)
-
-    pub level_exactly : Exactly (level N r s) (Level N r)
-    level_exactly = (is_level, λ h. and_both _ _ (ap not (all_even h)) (ap not (all_silent h)))
 
     -- 11, "log full": where the rack is level, each running replica has closed all slots
     pub logs_full : Level N r → Exactly (leb slots s) ((c : ℕ) → c < n → is_running N r c ≡ true → slots ≤ (r.at c).closed)

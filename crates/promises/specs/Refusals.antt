@@ -16,7 +16,8 @@ use Rattle.model.specs.Scripts.{Script, play, answered, advance, goes_on, runnin
 use Rattle.model.proofs.Cases.{clash, if-ind, Unmet, unmet_both}
 use Rattle.model.proofs.Sequences.{conducts_by, conducted_by}
 use Rattle.safety.specs.Comes.{ByRule, by_submit, by_relay, by_begin, by_hear, by_notice, by_exchange, by_state}
-use Rattle.safety.specs.Comes.{by_outcome_0, by_outcome_1, by_seek, by_next_phase, by_find, by_crash, past}
+use Rattle.safety.specs.Comes.{by_outcome_0, by_outcome_1, by_seek, by_next_phase, by_find, by_crash}
+use Rattle.safety.proofs.Comes.{past}
 use Rattle.coin.specs.Strip.{StripOutcome, strip_refusals, strip_filled}
 use Rattle.shelf.specs.Planes.{planes, entries_of}
 use Rattle.shelf.specs.Calls.{planes_refusals, entries_refusals, rearranged, to_planes, to_entries}

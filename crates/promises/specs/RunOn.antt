@@ -11,7 +11,8 @@ use Rattle.model.specs.Scripts.{play, advance, goes_on, running, RunsOn, most_ad
 use Rattle.model.proofs.Cases.{round_back, clash, unless_ind, unmet_both}
 use Rattle.model.proofs.Playing.{run_ends, run_enough, run_further}
 use Rattle.safety.specs.Comes.{ByRule, by_notice, by_exchange, by_state, by_outcome_0, by_outcome_1, by_seek, by_next_phase}
-use Rattle.safety.specs.Comes.{by_find, past}
+use Rattle.safety.specs.Comes.{by_find}
+use Rattle.safety.proofs.Comes.{past}
 use Rattle.safety.specs.RunOn.{left, left_below}
 use Rattle.tables.specs.Layout.{Tables, record_end, record_at}
 use Rattle.tables.specs.View.{view}

@@ -12,21 +12,24 @@ use Rattle.model.specs.Tests.{listed}
 use Rattle.model.specs.Rack.{same_round, round_of, tag_of, Replica}
 use Rattle.model.specs.Rules.{is_crash, majority_tag, notice, phase_in}
 use Rattle.model.specs.Conductor.{for_each}
-use Rattle.model.specs.Scripts.{play, accepted, after_all}
-use Rattle.model.proofs.Cases.{clash, either, and_none, if-ind, unless_ind, unmet_both}
+use Rattle.model.specs.Scripts.{play, accepted}
+use Rattle.model.proofs.Cases.{clash, and_none, if-ind, unless_ind, unmet_both}
 use Rattle.model.proofs.Counting.{any_nowhere}
 use Rattle.safety.specs.Comes.{ByRule, by_submit, by_relay, by_begin, by_hear, by_notice, by_exchange, by_state}
-use Rattle.safety.specs.Comes.{by_outcome_0, by_outcome_1, by_seek, by_next_phase, by_find, by_crash, past}
+use Rattle.safety.specs.Comes.{by_outcome_0, by_outcome_1, by_seek, by_next_phase, by_find, by_crash}
+use Rattle.safety.proofs.Comes.{past}
 use Rattle.tables.specs.Layout.{Tables, known_cell, known_in, record_end, record_at, record_stored, holders_base, holder_cell, heard_cell}
 use Rattle.tables.specs.View.{view}
-use Rattle.tables.specs.Records.{other_record, same_record}
+use Rattle.tables.specs.Records.{same_record}
+use Rattle.tables.proofs.Records.{other_record}
 use Rattle.tables.specs.Sections.{elsewhere, record_elsewhere, record_agrees}
-use Rattle.tables.specs.Write.{moved, shut, with_change, words_held, words_sent, words_closed, write, unstored}
+use Rattle.tables.specs.Write.{moved, shut, with_change, words_held, words_sent, words_closed, write}
 use Rattle.tables.specs.Checks.{lengths, misplaced, spoiled, any_spoiled}
-use Rattle.tables.specs.Calls.{lent_refusals, judge, performed, on_tables, stepped}
+use Rattle.tables.specs.Calls.{lent_refusals, judge, performed, stepped}
 use Rattle.tables.specs.Bounds.{Long}
 use Rattle.tables.specs.Addresses.{state_in}
-use Rattle.tables.specs.Sound.{moved_fine, shut_fine, Sound, lent_sound, record_there, own_unspoiled, own_counts, stands, own_view, seen_low, noticed_low}
+use Rattle.tables.specs.Sound.{Sound, lent_sound, record_there, own_unspoiled, stands, own_view, seen_low, noticed_low}
+use Rattle.tables.proofs.Sound.{moved_fine, shut_fine, own_counts}
 use Rattle.promises.specs.Order.{step_refusals}
 use Rattle.promises.specs.Kept.{step_lengths_kept}
 
@@ -224,14 +227,3 @@ pub calm_each : (k : ℕ) (ok : ℕ → Bool) (steps : ℕ → List Step) → ((
 unfolding for_each Calm
 calm_each zero ok steps all = tt
 calm_each (suc k) ok steps all = calm_then (for_each k ok steps) _ (calm_each k ok steps all) (if-ind Calm (ok k) (λ _. all k) (λ _. tt))
-
-pub still_after : (N : Numbers) (strip : List ℕ) (steps : List Step) (t : Tables) → Calm steps → Sound N t
-    → StillFine N t (after_all (on_tables N strip) steps t)
-unfolding after_all Calm
-still_after N strip [] t calm fine = record { fine = fine; alike = λ d h. refl }
-still_after N strip (a ∷ steps) t calm fine =
-    let u = performed N strip a t in
-    let next : StillFine N t u = either (accepted (judge N strip a t)) (λ e. still_fine N strip a t calm.0 e)
-    (λ e. subst (StillFine N t) (unstored N a.who.0 t (judge N strip a t) e) (record { fine = fine; alike = λ d h. refl })) in
-    let rest = still_after N strip steps u calm.1 next.fine in
-    record { fine = rest.fine; alike = λ d h. rest.alike d h ∙ next.alike d h }

@@ -11,7 +11,8 @@ use Rattle.model.specs.declared.Step.{Step}
 use Rattle.model.specs.Rules.{is_crash}
 use Rattle.model.specs.Conductor.{for_each, does, hear, hear_steps, round_steps}
 use Rattle.tables.specs.Layout.{Tables, has_bit}
-use Rattle.promises.specs.Still.{StillFine, Calm, calm_one, calm_then, calm_each, still_after}
+use Rattle.promises.specs.Still.{StillFine, Calm, calm_one, calm_then, calm_each}
+use Rattle.promises.proofs.Still.{still_after}
 use Rattle.tables.specs.Sound.{Sound}
 use Rattle.rounds.specs.Made.{Made, Listening, Ready}
 

@@ -21,7 +21,7 @@ use Rattle.model.specs.Limits.{most_phases}
 use Rattle.model.specs.Scripts.{Played, play, accepted, advance, goes_on, stopped, running, most_advances, ended}
 use Rattle.model.proofs.Cases.{clash, and_true, or_false, Unmet, unless_ind, unmet_both, none_met}
 use Rattle.model.proofs.Playing.{run_further, run_stops}
-use Rattle.safety.specs.Comes.{past}
+use Rattle.safety.proofs.Comes.{past}
 use Rattle.tables.specs.Layout.{mask_bits, Tables, record_end}
 use Rattle.tables.specs.View.{view}
 use Rattle.tables.specs.Sound.{sound_unmet, lent_sound, record_there}

@@ -6,9 +6,9 @@ use Rattle.std.specs.Prelude.{Bool, ◌≡◌}
 use Rattle.std.proofs.Math.Bool.{true, false}
 use mathlib.Core.List.{List, [], ◌∷◌}
 use Rattle.std.proofs.Math.Path.{refl, subst}
-use Rattle.std.proofs.Common.{sym, ◌∙◌, ap}
+use Rattle.std.proofs.Common.{sym, ◌∙◌}
 use Rattle.std.proofs.Math.ListN.{length}
-use Rattle.safety.specs.Types.{Numbers, ReplicaId, Refusal, Effect, Refuse, Hold, Send, Close, Seek, Receive, Halt, Step}
+use Rattle.safety.specs.Types.{Numbers, ReplicaId, Effect, Refuse, Hold, Send, Close, Seek, Receive, Halt, Step}
 use Rattle.safety.specs.Types.{Call, Open, Single, RunOn, Conduct, Answer, Refused, Done, Ran, Opened, Conducted}
 use Rattle.model.specs.Tests.{if, bit}
 use Rattle.model.specs.Rack.{apply}
@@ -91,7 +91,7 @@ module _ (N : Numbers) (strip : List ℕ) where
 
 -- ---- "A refused call leaves it alone"
 
-abbrev refuses : Answer → Bool
+abbrev pub refuses : Answer → Bool
 refuses (Refused why) = true
 refuses Done = false
 refuses (Ran k) = false
@@ -99,7 +99,7 @@ refuses (Opened N) = false
 refuses (Conducted k m) = false
 
 module _ (N : Numbers) (strip : List ℕ) where
-  step_alone : (a : Step) (h : History) → accepted (decide N strip a h.rack) ≡ false → take_step N strip a h ≡ h
+  pub step_alone : (a : Step) (h : History) → accepted (decide N strip a h.rack) ≡ false → take_step N strip a h ≡ h
   unfolding take_step apply if
   step_alone a h = go (decide N strip a h.rack)
     where
@@ -121,7 +121,7 @@ module _ (N : Numbers) (strip : List ℕ) where
       ]
 
   -- an effect whose answer is a refusal was refused
-  told_refused : (good : Answer) → refuses good ≡ false → (e : Effect) → refuses (answered good e) ≡ true → accepted e ≡ false
+  pub told_refused : (good : Answer) → refuses good ≡ false → (e : Effect) → refuses (answered good e) ≡ true → accepted e ≡ false
   told_refused good h = elim [
     | Refuse why ↦ λ g. refl
     | Hold x ↦ λ g. clash (sym h ∙ g)
@@ -133,7 +133,7 @@ module _ (N : Numbers) (strip : List ℕ) where
   ]
 
   -- once an advance was accepted, a run on is not refused
-  run_accepts : (c : ReplicaId) (most k : ℕ) (h : History) → refuses (play (on_history N strip) (running c most (suc k)) h).answer ≡ false
+  pub run_accepts : (c : ReplicaId) (most k : ℕ) (h : History) → refuses (play (on_history N strip) (running c most (suc k)) h).answer ≡ false
   unfolding running play
   run_accepts c zero k h = refl
   run_accepts c (suc most) k h = let next = take_step N strip (advance c) h in
@@ -141,24 +141,3 @@ module _ (N : Numbers) (strip : List ℕ) where
 
   abbrev Alone : History → Played History → Type 0
   Alone h o = refuses o.answer ≡ true → o.state ≡ h
-
-  run_alone : (c : ReplicaId) (most : ℕ) (h : History) → Alone h (play (on_history N strip) (running c most 0) h)
-  unfolding running play
-  run_alone c zero h = λ g. clash g
-  run_alone c (suc most) h =
-      let next = take_step N strip (advance c) h in
-      let e = decide N strip (advance c) h.rack in
-      if-ind (λ (x : Script). Alone h (play (on_history N strip) x next)) (goes_on e) (λ _ g. clash (sym (run_accepts c most 0 next) ∙ g))
-      (λ _ g. step_alone (advance c) h (told_refused (Ran 1) refl e g))
-
-  alone : (a : Call) (h : History) → Alone h (follow N (record { strip = strip; call = a }) h)
-  unfolding play
-  alone (Open q) h = λ g. refl
-  alone (Single a) h = λ g. step_alone a h (told_refused Done refl (decide N strip a h.rack) g)
-  alone (RunOn c) h = run_alone c (most_advances N) h
-  alone Conduct h = let w = on_history N strip in let r = h.rack in
-      subst (Alone h) (sym (conducts_by w N h)) (unless_ind (Alone h) _ (λ why g. refl) (λ _.
-      subst (Alone h) (sym (conducted_by w (relay_steps N r) (conduct_steps N r) h)) (λ g. clash g)))
-
-  pub refused_alone : (a : Call) (h : History) (why : Refusal) → let o = follow N (record { strip = strip; call = a }) h in o.answer ≡ Refused why → o.state ≡ h
-  refused_alone a h why e = alone a h (ap refuses e)

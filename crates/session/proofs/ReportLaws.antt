@@ -19,7 +19,7 @@ use Rattle.report.proofs.PageLaws.{then, same_text, nothing}
 use Rattle.report.proofs.BenchLaws.{by_view}
 use Rattle.files.specs.declared.Said.{Said}
 use Rattle.files.specs.Play.{Turn, turn, goes_on, turn_on, play, begun}
-use Rattle.files.specs.Played.{opened_sound}
+use Rattle.files.proofs.Playing.{opened_sound}
 use Rattle.session.proofs.RecordLaws.{on_more, play_more, play_all, still, play_stopped}
 use Rattle.files.specs.Reported.{said_line, line_on, lines, ending, fresh, whole, report}
 

@@ -2,12 +2,12 @@
 use Prim.Native.Nat.{ℕ, zero, suc, ◌+◌, ◌-◌, ◌*◌, ◌/◌, ◌%◌, ◌^◌, ◌<◌, ◌≤◌}
 use Rattle.std.specs.Prelude.{◌≡◌, refl}
 use Rattle.std.proofs.Math.Path.{sym}
-use Rattle.std.proofs.Common.{◌∙◌, ⊎_elim, pow-suc, div-one, div-add-mod', mul_comm, eq-or-lt_of_le, le_of_suc-le-suc}
+use Rattle.std.proofs.Common.{◌∙◌, ⊎_elim, pow-suc, div-add-mod', mul_comm, eq-or-lt_of_le, le_of_suc-le-suc}
 use mathlib.Core.List.{[], ◌∷◌, map, map-append, foldl-append}
 use Rattle.std.proofs.Math.Nat.{pow-zero, div-eq_of_lt, div-div-eq-div-mul}
 use native.Mathlib.Omega.{arith}
 use Rattle.model.proofs.Grown.{Grows}
-use Rattle.shelf.specs.Planes.{upto, entry_bytes, byte, bytes, joined}
+use Rattle.shelf.specs.Planes.{upto, entry_bytes, byte, joined}
 
 -- ---- lists made of 0, 1, .., n − 1
 
@@ -55,13 +55,10 @@ module _ (g : ℕ → ℕ) where
 
 -- an entry is what its bytes make
 module _ (entry : ℕ) (fits : entry < 256 ^ entry_bytes) where
-  joined_first : (n : ℕ) → n ≤ entry_bytes → joined (map (λ p. byte p entry) (upto n)) ≡ entry / 256 ^ (entry_bytes - n)
+  pub joined_first : (n : ℕ) → n ≤ entry_bytes → joined (map (λ p. byte p entry) (upto n)) ≡ entry / 256 ^ (entry_bytes - n)
   unfolding upto
   joined_first zero h = sym (div-eq_of_lt fits)
   joined_first (suc n) h =
       let e : entry_bytes - n ≡ suc (7 - n) = omega arith in
       let e' : entry_bytes - suc n ≡ 7 - n = omega arith in
       rw (joined_more (λ p. byte p entry) n, joined_first n (omega arith), e, shifted entry (7 - n), e') (div-add-mod' (entry / 256 ^ (7 - n)) 256)
-
-  pub joined_bytes : joined (bytes entry) ≡ entry
-  joined_bytes = joined_first entry_bytes (omega arith) ∙ div-one entry

@@ -1,19 +1,19 @@
 -- What Point 7 says of the two layouts, as theorems. Nothing here needs the limits of the calls.
-use Rattle.std.specs.Prelude.{ℕ, ◌+◌, ◌*◌, ◌/◌, ◌%◌, ◌^◌, ◌<◌, ◌≡◌, refl, eqb, length, get_or}
-use Rattle.std.proofs.Common.{sym, ap, ◌∙◌, div-add-mod', arith, ext_get_or}
+use Rattle.std.specs.Prelude.{ℕ, ◌+◌, ◌*◌, ◌%◌, ◌^◌, ◌<◌, ◌≡◌, refl, eqb, length, get_or}
+use Rattle.std.proofs.Common.{◌∙◌, arith}
 use mathlib.Core.List.{List, [], ◌∷◌, Permᴰ}
 use Rattle.std.proofs.Math.Nat.{suc-sub-suc}
 use Rattle.model.specs.Tests.{bit}
 use Rattle.model.proofs.Grown.{length_grown, getD_grown}
-use Rattle.shelf.specs.Planes.{upto, entry_bytes, byte, planes, log_bytes, joined, entry_at, entry_count, entries_of}
-use Rattle.shelf.specs.Grid.{length_listed, getD_listed, transposed, row_inside, column_inside, moved, moved_cell}
-use Rattle.shelf.specs.Bytes.{upto_grows, map_grows, same_made, byte_joined, joined_bytes}
+use Rattle.shelf.specs.Planes.{upto, entry_bytes, byte, planes, log_bytes, entry_at, entry_count, entries_of}
+use Rattle.shelf.specs.Grid.{length_listed, getD_listed, transposed}
+use Rattle.shelf.specs.Bytes.{upto_grows, map_grows, byte_joined}
 
 -- every number of a list is below a bound, as the machine's types have it: entries are below 2^64 and bytes below 256
 abbrev pub Below : ℕ → List ℕ → Type 0
 Below bound l = (k : ℕ) → get_or l k 0 < bound
 
-eight : length (upto entry_bytes) ≡ entry_bytes
+pub eight : length (upto entry_bytes) ≡ entry_bytes
 eight = length_grown upto_grows entry_bytes
 
 pub length_planes : (entries : List ℕ) → length (planes entries) ≡ entry_bytes * length entries
@@ -37,11 +37,6 @@ by_entry stored j h = getD_grown (map_grows (entry_at (entry_count stored) store
 pub reordered : (entries : List ℕ) → Permᴰ (planes entries) (log_bytes entries)
 reordered entries = transposed byte (upto entry_bytes) entries
 
--- where each stored byte stands in the log; by `moved_inside` and `moved_back` every place is met once
-pub moves : (entries : List ℕ) (place : ℕ) → place < entry_bytes * length entries
-    → get_or (planes entries) place 0 ≡ get_or (log_bytes entries) (moved entry_bytes (length entries) place) 0
-moves entries place h = rw eight at (moved_cell byte (upto entry_bytes) entries place 0 0 (rw eight h))
-
 unfoldable pub occurrences : ℕ → List ℕ → ℕ
 occurrences b [] = 0
 occurrences b (x ∷ l) = bit (eqb x b) + occurrences b l
@@ -53,47 +48,20 @@ same_occurrences b (Permᴰ.cons e d) = rw (e, same_occurrences b d)
 same_occurrences b (Permᴰ.swap e e') = rw (e, e') (omega arith)
 same_occurrences b (Permᴰ.trans d d') = same_occurrences b d ∙ same_occurrences b d'
 
--- "each as often"
-pub as_often : (entries : List ℕ) (b : ℕ) → occurrences b (planes entries) ≡ occurrences b (log_bytes entries)
-as_often entries b = same_occurrences b (reordered entries)
-
 -- ---- "Doing both, from either side, returns the start."
 
 module _ (entries : List ℕ) (fit : Below (2 ^ 64) entries) where
-  count_again : entry_count (planes entries) ≡ length entries
+  pub count_again : entry_count (planes entries) ≡ length entries
   count_again = rw (length_planes entries) (omega arith)
 
-  entry_again : (j : ℕ) → j < length entries → entry_at (length entries) (planes entries) j ≡ get_or entries j 0
-  entry_again j h =
-      ap joined
-      (same_made (λ p. get_or (planes entries) (p * length entries + j) 0) (λ p. byte p (get_or entries j 0)) entry_bytes (λ p hp. by_plane entries p j hp h))
-      ∙ joined_bytes (get_or entries j 0) (fit j)
-
-  pub entries_again : entries_of (planes entries) ≡ entries
-  entries_again =
-      let same = length_entries (planes entries) ∙ count_again in
-      ext_get_or 0 (entries_of (planes entries)) entries same
-      (λ j h. by_entry (planes entries) j (rw (sym (length_entries (planes entries))) h) ∙ rw count_again (entry_again j (rw same at h)))
-
 module _ (stored : List ℕ) (fit : Below 256 stored) (even : length stored % entry_bytes ≡ 0) where
-  abbrev count : ℕ
+  abbrev pub count : ℕ
   count = entry_count stored
 
-  length_again : length (planes (entries_of stored)) ≡ length stored
+  pub length_again : length (planes (entries_of stored)) ≡ length stored
   length_again = length_planes (entries_of stored) ∙ rw (length_entries stored) (omega arith)
 
-  byte_again : (p j : ℕ) → p < entry_bytes → j < count → get_or (planes (entries_of stored)) (p * count + j) 0 ≡ get_or stored (p * count + j) 0
+  pub byte_again : (p j : ℕ) → p < entry_bytes → j < count → get_or (planes (entries_of stored)) (p * count + j) 0 ≡ get_or stored (p * count + j) 0
   byte_again p j hp hj =
       rw (length_entries stored) at (by_plane (entries_of stored) p j hp (rw (length_entries stored) hj))
       ∙ rw (by_entry stored j hj, ← suc-sub-suc 7 p) (byte_joined (λ q. get_or stored (q * count + j) 0) (λ q. fit (q * count + j)) entry_bytes p hp)
-
-  place_again : (i : ℕ) → i < entry_bytes * count → get_or (planes (entries_of stored)) i 0 ≡ get_or stored i 0
-  place_again i h = rw (div-add-mod' i count) at (byte_again (i / count) (i % count) (row_inside entry_bytes count i h) (column_inside entry_bytes count i h))
-
-  pub planes_again : planes (entries_of stored) ≡ stored
-  planes_again =
-      ext_get_or 0 (planes (entries_of stored)) stored length_again (λ i h. place_again i (rw (length_planes (entries_of stored), length_entries stored) at h))
-
-  -- and so of stored bytes that are read
-  pub read_reordered : Permᴰ stored (log_bytes (entries_of stored))
-  read_reordered = rw planes_again at (reordered (entries_of stored))

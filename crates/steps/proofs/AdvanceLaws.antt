@@ -16,7 +16,8 @@ use Rattle.model.specs.Rules.{notice, advance_rule, heed, own_rule}
 use Rattle.model.specs.Scripts.{advance}
 use Rattle.model.proofs.Cases.{unless_ind, unmet_both}
 use Rattle.safety.specs.Comes.{ByRule, by_notice, by_exchange, by_state, by_outcome_0, by_outcome_1, by_seek, by_next_phase}
-use Rattle.safety.specs.Comes.{by_find, past}
+use Rattle.safety.specs.Comes.{by_find}
+use Rattle.safety.proofs.Comes.{past}
 use Rattle.tables.specs.Layout.{Tables, record_at}
 use Rattle.tables.specs.View.{inbox_in, replica_at, view}
 use Rattle.tables.specs.Checks.{misplaced}

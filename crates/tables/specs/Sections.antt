@@ -3,7 +3,6 @@
 use Rattle.std.specs.Prelude.{ℕ, ◌+◌, ◌≤◌, ◌<◌, List, ◌⊎◌, ◌≡◌, refl, get_or, set as store_at}
 use Rattle.std.proofs.Common.{arith, inl, inr, ⊎_elim, ◌∙◌, get_or-set_other}
 use Rattle.tables.specs.Types.{Numbers, Record}
-use Rattle.tables.specs.Addresses.{proposal_in}
 use Rattle.tables.specs.Layout.{header_words, record_cell, record_end, record_at, record_stored, holders_base}
 use Rattle.tables.specs.Layout.{holder_cell, heard_base, words_need, proposal_cell, logs_base, orders_need}
 
@@ -83,6 +82,3 @@ module _ (N : Numbers) where
     pub records : (c : ℕ) → c < N.n → record_end c ≤ holders_base N
     pub holders : (i : ℕ) → i < N.room → holder_cell N i < heard_base N
     pub proposals : (s d : ℕ) → s < N.slots → d < N.n → proposal_cell N s d < logs_base N
-
-  pub in_order : InOrder
-  in_order = record { records = λ c h. omega arith; holders = λ i h. omega arith; proposals = λ s d. proposal_in N s d }

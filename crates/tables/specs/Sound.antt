@@ -1,10 +1,9 @@
 -- What is known of a record that is not spoiled, and of memories where refusals 3 and 2 of a step are not met.
-use Rattle.std.specs.Prelude.{ℕ, suc, ◌≤◌, ◌<◌, Bool, true, false, ◌&&◌, ◌||◌, List, ◌≡◌, leb, ltb, length}
-use Rattle.std.proofs.Common.{zero-le, ◌∙◌, ap, ap₂, subst}
+use Rattle.std.specs.Prelude.{ℕ, ◌≤◌, ◌<◌, Bool, true, false, ◌&&◌, List, ◌≡◌, leb, ltb, length}
+use Rattle.std.proofs.Common.{zero-le, ◌∙◌, ap, subst}
 use native.Mathlib.Omega.{arith}
 use Rattle.std.proofs.Math.Bool.{not}
 use Rattle.std.proofs.Math.Path.{refl, sym}
-use Rattle.std.proofs.Math.Dec.{eqb}
 use borrow.Author.Tests.{ltb-true, ltb-false, leb-false, le-leb, le-ltb, lt-ltb, not-false}
 use Rattle.tables.specs.Types.{Numbers, Round, Idle, Exchange, State, Vote, Find, States, Votes, Notices, Step, Record}
 use Rattle.model.specs.Tests.{if}
@@ -12,12 +11,11 @@ use Rattle.model.specs.Limits.{limited}
 use Rattle.model.specs.Rack.{round_number, round_in, same_round, is_sent, Replica}
 use Rattle.model.specs.Rules.{is_crash, phase_in, seen, notice}
 use Rattle.model.proofs.Branches.{if-true}
-use Rattle.model.proofs.Cases.{clash, or_false, or_none, if-ind, Unmet, round_back}
-use Rattle.model.proofs.Counting.{one_bit, any_false}
+use Rattle.model.proofs.Cases.{clash, or_false, or_none, if-ind, Unmet}
+use Rattle.model.proofs.Counting.{any_false}
 use Rattle.model.proofs.FirstSent.{first_found}
 use Rattle.tables.specs.Layout.{Tables, known_in, record_end, record_at}
 use Rattle.tables.specs.View.{only, replica_at, view}
-use Rattle.tables.specs.Write.{moved, shut}
 use Rattle.tables.specs.Checks.{lengths, misplaced, astray, overcounted, spoiled, spoiled_at, any_spoiled, tables_refusals, record_refusals}
 use Rattle.tables.specs.Addresses.{guarded_sent}
 use Rattle.tables.specs.Bounds.{Bounds, bounds, within_limits, Long, is_long, long_enough}
@@ -56,7 +54,7 @@ module _ (N : Numbers) (s p : ℕ) where
   in_vote e = not-false _ (or_false (leb slots s) _ e).1
 
 -- the number of a round is one of the five
-round_low : (a : Round) → round_number a ≤ 4
+pub round_low : (a : Round) → round_number a ≤ 4
 round_low Idle = omega arith
 round_low Exchange = omega arith
 round_low State = omega arith
@@ -69,7 +67,7 @@ round_low Find = omega arith
 abbrev pub CountsFit : Record → Type 0
 CountsFit k = (k.empty ≤ k.slot) × (k.fast ≤ k.slot)
 
-counts_low : (k : Record) → CountsFit k → overcounted k ≡ false
+pub counts_low : (k : Record) → CountsFit k → overcounted k ≡ false
 unfolding overcounted
 counts_low k fit = or_none _ _ (le-ltb _ _ fit.0) (le-ltb _ _ fit.1)
 
@@ -84,20 +82,6 @@ module _ (N : Numbers) (k : Record) (fine : spoiled N k ≡ false) where
   unfolding spoiled overcounted
   fine_counts = let (e, f) = or_false (ltb k.slot k.empty) _ (or_false (astray N k) _ fine).1 in
       (ltb-false _ _ e, ltb-false _ _ f)
-
-module _ (N : Numbers) where
-  -- where a round, slot and phase go together, and the counts with the slot
-  pub moved_fine : (a : Round) (s p : ℕ) (k : Record) → misplaced N a s p ≡ false → CountsFit (moved a s p k) → spoiled N (moved a s p k) ≡ false
-  unfolding spoiled astray
-  moved_fine a s p k e fit = or_none _ _
-      (ap₂ (λ (x y : Bool). x || y) (le-ltb 4 (round_number a) (round_low a)) (ap (λ (a : Round). misplaced N a s p) (round_back a) ∙ e)) (counts_low _ fit)
-
-  -- a close raises neither count by more than the slot
-  pub shut_fine : (x : ℕ) (own : Bool) (k : Record) → k.slot < N.slots → CountsFit k → spoiled N (shut x own k) ≡ false
-  unfolding misplaced
-  shut_fine x own k low fit = let e = fit.0 in let f = fit.1 in
-      moved_fine Idle (suc k.slot) k.phase (shut x own k) (le-ltb _ _ low)
-      (omega (arith, one_bit (eqb x 0)), omega (arith, one_bit (own && eqb k.phase 1)))
 
 -- ---- memories that passed
 
@@ -147,9 +131,6 @@ module _ (N : Numbers) where
 
     pub own_unspoiled : spoiled N (record_at t.words c) ≡ false
     own_unspoiled = unspoiled_there t.words there record_there fine.unspoiled
-
-    pub own_counts : CountsFit (record_at t.words c)
-    own_counts = fine_counts N _ own_unspoiled
 
     -- its round, slot and phase go together
     pub stands : let k = record_at t.words c in misplaced N (round_in k.round) k.slot k.phase ≡ false

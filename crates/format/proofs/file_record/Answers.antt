@@ -1,7 +1,7 @@
 use borrow.Author.Tests.{le-leb, lt-leb, le-ltb, lt-ltb}
 use Rattle.model.specs.Tests.{if}
 use Rattle.files.specs.Format.{file_record}
-use Rattle.files.specs.FoundLaws.{told_all}
+use Rattle.files.proofs.FoundLaws.{told_all}
 use Rattle.format.proofs.file_record.Goals as goal
 
 pub returns-then-file-at : goal.returns-then-file-at

@@ -3,7 +3,7 @@ use Rattle.std.specs.Prelude.{ℕ, ◌≤◌, List, ◌++◌, ◌≡◌, length,
 use Rattle.std.proofs.Common.{arith, le_trans}
 use Rattle.files.specs.Page.{page, print}
 use Rattle.files.specs.Printed.{printed}
-use Rattle.files.specs.Fits.{report_fits}
+use Rattle.files.proofs.Fits.{report_fits}
 use Rattle.files.specs.Rehearsal.{most, blank, blank_strip, rehearsal}
 
 pub nothing_cut : (file l : List ℕ) → length file ≤ 65536 → 1600000 ≤ length l

@@ -1,0 +1,4 @@
+pub mod Level
+pub mod OnTables
+pub mod Steps
+pub mod Theorems

@@ -1,0 +1,10 @@
+pub mod AnyStore
+pub mod Linked
+pub mod Onward
+pub mod Openings
+pub mod Parts
+pub mod Records
+pub mod Refine
+pub mod Stored
+pub mod Theorem
+pub mod Writable

@@ -1,0 +1,9 @@
+pub mod Enough
+pub mod Fits
+pub mod Forms
+pub mod FoundLaws
+pub mod Playing
+pub mod Renewed
+pub mod TurnForms
+pub mod Unchanged
+pub mod Whole

@@ -1,0 +1,14 @@
+pub mod Allowed
+pub mod Board
+pub mod Comes
+pub mod Counts
+pub mod Entries
+pub mod Heeds
+pub mod Histories
+pub mod Kept
+pub mod Later
+pub mod Onward
+pub mod RunOn
+pub mod Steady
+pub mod Theorems
+pub mod Told

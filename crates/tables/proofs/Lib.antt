@@ -1,0 +1,4 @@
+pub mod Addresses
+pub mod Records
+pub mod Sections
+pub mod Sound
