@@ -182,10 +182,10 @@ static inline size_t rushhopper_strip_length(struct rushhopper_numbers numbers)
 
 /* A length of buffer that no report of a file fills, for players of at most n replicas and slots.
  *
- * By the lengths of the lines (crates/report/specs/Lines). A record has at least two bytes, but the last may be cut after one,
+ * By the lengths of the lines (crates/files/specs/Lines). A record has at least two bytes, but the last may be cut after one,
  * and at most one line. `refused K R` has 12 bytes and the digits of K: 16 for up to 9,999 records, 20 for less than a hundred
  * million, 32 for any 64-bit K. The one accepted opening's line has at most 23 bytes, and one byte is to spare. A replica's
- * line at the end has at most 19 bytes and 21 for each slot; the theorem `report_fits` of crates/session/specs/Fits has the
+ * line at the end has at most 19 bytes and 21 for each slot; the theorem `report_fits` of crates/files/proofs/Fits has the
  * same, and in all at most 24 * K + n * (19 + 21 * slots) bytes for a file of K bytes, K below 100,000. */
 #define RUSHHOPPER_MOST_RECORDS(file_length) ((size_t)(file_length) / 2 + 1)
 #define RUSHHOPPER_MOST_LINE(records) ((size_t)((records) < 10000 ? 16 : (records) < 100000000 ? 20 : 32))

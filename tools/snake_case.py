@@ -1,5 +1,5 @@
 #!/usr/bin/env python3
-"""Brings the repository's own definitions and lemmas to snake case: `record_at` becomes `record_at`, in .antt and .rt files, in must-fail
+"""Brings the repository's own definitions and lemmas to snake case: a dash in them becomes an underscore, in .antt and .rt files, in must-fail
 edits, and between backticks in comments and pages.
 
     tools/snake_case.py [FOLDER]        in the repository's top, or FOLDER; once, after the toolchain's port.py

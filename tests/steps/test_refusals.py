@@ -65,7 +65,7 @@ def wrapper_words():
 
 
 def defined_numbers():
-    return numbered(re.findall(r"^refusal-number (\w+) = (\d+)$", DEFINITION.read_text(encoding="utf-8"), re.MULTILINE))
+    return numbered(re.findall(r"^refusal_number (\w+) = (\d+)$", DEFINITION.read_text(encoding="utf-8"), re.MULTILINE))
 
 
 class Refusals(unittest.TestCase):

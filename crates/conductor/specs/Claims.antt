@@ -1,5 +1,5 @@
 -- What holds of the conductor in a run, wherever it is not turned away: of the rack that it takes, the rack that it leaves and
--- its answer. The statement alone: specs/Theorems proves it of the history, specs/OnTables of the tables.
+-- its answer. The statement alone: proofs/Theorems proves it of the history, specs/OnTables of the tables.
 use Rattle.std.specs.Prelude.{ℕ, suc, ◌+◌, ◌*◌, ◌<◌, true, false, ◌≡◌}
 use Rattle.tables.specs.Types.{Numbers, Idle, Sort, Answer, Conducted}
 use Rattle.model.specs.Tests.{set, count}

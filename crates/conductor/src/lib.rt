@@ -1,2 +1,2 @@
-// Theorems about the conductor: no code. The statement stands in specs/Claims.antt, its proofs end in specs/Theorems.antt and specs/OnTables.antt.
+// Theorems about the conductor: no code. The statement stands in specs/Claims.antt, its proofs end in proofs/Theorems.antt and proofs/OnTables.antt.
 #![tactic(auto)]

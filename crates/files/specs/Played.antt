@@ -162,7 +162,7 @@ module _ (most : Numbers) (file : List ℕ) (t : Tables) (strip : List ℕ) wher
 
   -- the accepted opening of the file, demand 3 of the calls that the records behind it make, and what is said of the next
   -- record by the run's history
-  pub record Safe-session (q : Plan) (x : Turn) (items : List Item) : Type 0 where
+  pub record SafeSession (q : Plan) (x : Turn) (items : List Item) : Type 0 where
     pub opening : Opening q
     pub accepted : (open_rack q t strip).answer ≡ Opened (planned q)
     pub numbers : x.player.numbers ≡ planned q
@@ -173,7 +173,7 @@ module _ (most : Numbers) (file : List ℕ) (t : Tables) (strip : List ℕ) wher
         ≡ history_says (planned q) (after (planned q) (map as_lent items)) x.strip (file_record file x.player.at).found
 
   -- the next record's line in the report of an opened run: `refused K R` where its history refuses, and else none
-  pub line_by_history : (k : ℕ) (x : Turn) (q : Plan) (items : List Item) → Safe-session q x items → goes_on x.said ≡ true
+  pub line_by_history : (k : ℕ) (x : Turn) (q : Plan) (items : List Item) → SafeSession q x items → goes_on x.said ≡ true
       → line_on k most file x
       ≡ said_line k (history_says (planned q) (after (planned q) (map as_lent items)) x.strip (file_record file x.player.at).found)
   unfolding line_on

@@ -1,4 +1,4 @@
-// Step files: what stands at a place of one, and where whoever plays it stands. The definitions and theorems are in specs/; the code
+// Step files: what stands at a place of one, and where whoever plays it stands. The definitions and theorems are in specs/ and proofs/; the code
 // is in format (a record is read), reader, player (it is played), report and session (a whole file).
 #![tactic(auto)]
 

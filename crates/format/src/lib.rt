@@ -5,7 +5,7 @@ ghost use Rattle.std.specs.Prelude.{◌≡◌, ◌+◌, ◌≤◌, length};
 ghost use Rattle.files.specs.Format.{number, step_kind, is_wide, slot_bytes, step_length, plan_at, message_at, act_at, step_at, file_record};
 ghost use Rattle.files.specs.Numbered.{found_number, found_values, record_number, record_values};
 
-use files::{Found, Read};
+pub use files::{Found, Read};
 use model::{Act, Call, Message, Numbers, PhaseIndex, Plan, ReplicaId, SlotIndex, Step};
 
 // The kinds of records are 0 to this.

@@ -8,7 +8,8 @@ ghost use Rattle.tables.specs.Lent.{moments};
 ghost use Rattle.files.specs.Play.{out_of_place, too_large, moved_on, called_in_place, turn_of, turn};
 
 use calls::perform;
-use files::{Found, Played, Player, Said};
+use files::Found;
+pub use files::{Played, Player, Said};
 use model::{Answer, Call, Numbers, Plan, Refusal};
 use reader::read_at;
 use values::limits::{plan_limited, plan_numbers};

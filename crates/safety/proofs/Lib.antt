@@ -12,3 +12,5 @@ pub mod RunOn
 pub mod Steady
 pub mod Theorems
 pub mod Told
+pub mod SteadySteps
+pub mod Moving

@@ -3,19 +3,18 @@
 -- notice, or close by it. Else take one that is least far in the slot: all others have sent what it waits for, so it can hear
 -- one of them, or has heard a quorum. If it is idle, an order proposed here is in no log: it can be relayed, or begun with.
 use Prim.Native.Nat.{ℕ, ◌+◌, ◌≤◌, ◌<◌}
-use Rattle.std.proofs.Common.{arith, le_refl, ◌∙◌}
-use Rattle.std.proofs.Math.Decide.{dec_lt}
-use Rattle.std.specs.Prelude.{Bool, true, ◌&&◌, List, ◌⊎◌, ◌≢◌, ◌≡◌}
+use Rattle.std.proofs.Common.{arith, ◌∙◌}
+use Rattle.std.specs.Prelude.{Bool, true, List, ◌⊎◌, ◌≢◌, ◌≡◌}
 use Rattle.std.proofs.Math.Bool.{false, not}
 use Rattle.std.proofs.Math.Logic.{inl, inr}
 use Rattle.std.proofs.Math.Option.{Option}
 use Rattle.std.proofs.Math.Path.{refl, sym, ap, subst}
 use Rattle.std.proofs.Math.Dec.{leb, eqb}
-use borrow.Author.Tests.{eqb-true, eqb-false, ne_eqb, leb-true, leb-false, lt-leb, le-ltb, not-true, not-false}
-use Rattle.safety.specs.Types.{Numbers, Round, Idle, Exchange, State, Vote, Find, Sort, Proposals, States, Votes}
+use borrow.Author.Tests.{ne_eqb, leb-true, leb-false, lt-leb, le-ltb, not-true}
+use Rattle.safety.specs.Types.{Numbers, Round, Idle, Vote, Find, Sort, Proposals, Votes}
 use Rattle.safety.specs.Types.{Notices, Tag, TooFewHeard, PhasesUsedUp, Refuse}
 use Rattle.safety.specs.Types.{Message, Act, Relay, Begin, Hear, Advance, Step}
-use Rattle.model.specs.Tests.{count, any}
+use Rattle.model.specs.Tests.{count}
 use Rattle.model.specs.Rack.{sort_number, round_of, is, is_sent, Replica, Rack}
 use Rattle.model.specs.TurnedAway.{unless, Rule, settle}
 use Rattle.model.specs.Rules.{logged, pending, next_tag, seen, quorum, majority, heard_count, tally}
@@ -23,9 +22,9 @@ use Rattle.model.specs.Rules.{notice, outcome, phases_used_up, advance_rule, hee
 use Rattle.model.specs.Rules.{hear_rule, own_rule, from_nobody}
 use Rattle.model.specs.Scripts.{accepted}
 use Rattle.model.proofs.Branches.{if-false, when_met, when_missed}
-use Rattle.model.proofs.Cases.{clash, either, and_true, and_both, or_none, if-ind, Unmet}
+use Rattle.model.proofs.Cases.{clash, either, and_both, or_none, if-ind, Unmet}
 use Rattle.model.proofs.Cases.{round_apart, sort_back, is_true}
-use Rattle.model.proofs.Counting.{any_false, any_nowhere, any_place}
+use Rattle.model.proofs.Counting.{any_nowhere}
 use Rattle.model.proofs.FirstSent.{first_there}
 use Rattle.model.proofs.FirstTag.{first_of_leads}
 use Rattle.safety.specs.Claims.{moves, by_rules, CanMove, UsedUp}
@@ -33,9 +32,9 @@ use Rattle.safety.proofs.Board.{tagged}
 use Rattle.safety.specs.Comes.{Acts}
 use Rattle.safety.specs.Invariant.{progress, Eligible, Invariant}
 use Rattle.safety.proofs.Entries.{same_entry}
-use Rattle.safety.specs.Below.{differ_below, count_not, fails, least_of}
-use Rattle.safety.specs.Steady.{Due, Phased, SteadyRack}
-use Rattle.safety.specs.Onward.{Goes, concludes, due_in, low, majority_found, passes, through, unheard}
+use Rattle.safety.specs.Below.{differ_below, count_not}
+use Rattle.safety.specs.Steady.{Due, SteadyRack}
+use Rattle.safety.specs.Onward.{Goes, concludes, due_in, majority_found, passes, through, unheard}
 
 module _ (N : Numbers) where
   open N use {n, f, slots, phases}
@@ -45,13 +44,13 @@ module _ (N : Numbers) where
   by c a = record { who = record { 0 = c }; act = a }
 
   module _ (fits : f + f + 1 ≤ n) (r : Rack) (inv : Invariant N r) (steady : SteadyRack N r) where
-    abbrev Goal : Type 0
+    abbrev pub Goal : Type 0
     Goal = CanMove N (by_rules N r) ⊎ UsedUp N (by_rules N r)
 
     -- ---- steps of a running replica
 
     module _ (c : ℕ) (acts : Acts N r c) where
-      abbrev k : Replica
+      abbrev pub k : Replica
       k = r.at c
 
       can : (a : Act) → moves a ≡ true → from_nobody N a ≡ false → ((strip : List ℕ) → accepted (settle (own_rule N strip a r k)) ≡ true)
@@ -75,12 +74,12 @@ module _ (N : Numbers) where
       can_advance h = can Advance refl refl (λ strip.
           if-ind (λ (x : Rule). accepted (settle x) ≡ true) (is_sent (notice N k)) (λ _. refl) (λ none. passes _ (h none _)))
 
-      in_round : {a : Round} → k.round ≡ a → ((flip : Bool) → Goes (advance_rule N flip k a)) → CanMove N (by_rules N r)
+      pub in_round : {a : Round} → k.round ≡ a → ((flip : Bool) → Goes (advance_rule N flip k a)) → CanMove N (by_rules N r)
       in_round was h = can_advance (λ _ flip. subst (λ (a : Round). Goes (advance_rule N flip k a)) (sym was) (h flip))
 
       -- ---- it is behind another
 
-      behind : (d : ℕ) → d < n → k.closed < (r.at d).closed → CanMove N (by_rules N r)
+      pub behind : (d : ℕ) → d < n → k.closed < (r.at d).closed → CanMove N (by_rules N r)
       unfolding phase_in
       behind d there low = either (is_sent (seen k Notices 0 d))
           (λ heard. can_advance (λ none. clash (sym none ∙ first_there (seen k Notices 0) 0 n d (omega arith) (omega arith) heard)))
@@ -89,7 +88,7 @@ module _ (N : Numbers) where
 
       -- ---- it is idle, where another proposed a tag
 
-      begins : (x d : ℕ) → x ≢ 0 → Eligible r.known (r.at d).entry k.closed x → (r.at d).closed ≡ k.closed → k.round ≡ Idle → k.closed < slots
+      pub begins : (x d : ℕ) → x ≢ 0 → Eligible r.known (r.at d).entry k.closed x → (r.at d).closed ≡ k.closed → k.round ≡ Idle → k.closed < slots
           → CanMove N (by_rules N r)
       unfolding own_rule Unmet
       begins x d ne el level was low = either (k.held x)
@@ -103,7 +102,7 @@ module _ (N : Numbers) where
           waiting : k.held x ≡ true → next_tag r.known k ≢ 0
           waiting held = (first_of_leads (pending k) r.known x el.known_tag (and_both (k.held x) _ held (ap not unlogged)) ne).0
 
-      finds : k.round ≡ Find → CanMove N (by_rules N r)
+      pub finds : k.round ≡ Find → CanMove N (by_rules N r)
       unfolding advance_rule Unmet phase_in
       finds was = let (x, ne, most) = tagged N r.sent inv.grounded fits _ _ ((inv.replica c).finding was) in
           either (leb (majority N) (tally N k Proposals 0 (Tag x)))
@@ -116,7 +115,7 @@ module _ (N : Numbers) where
 
       -- ---- it is in the vote round, with a quorum heard
 
-      votes : k.round ≡ Vote → quorum N ≤ heard_count N k Votes k.phase → Goal
+      pub votes : k.round ≡ Vote → quorum N ≤ heard_count N k Votes k.phase → Goal
       unfolding own_rule heed advance_rule Unmet
       votes was q = either (phases_used_up N k).met
           (λ used. either (is_sent (notice N k)) (λ heard. inl (can_advance (λ none. clash (sym none ∙ heard)))) (λ none. inr (record {
@@ -129,50 +128,21 @@ module _ (N : Numbers) where
     -- ---- with a quorum running
 
     module _ (few : count n (λ c. (r.at c).crashed) ≤ f) where
-      abbrev far : ℕ → ℕ
+      abbrev pub far : ℕ → ℕ
       far c = progress (r.at c).round (r.at c).phase
 
       -- c is the least far of the running ones, which are all in one slot, and d is in a round
       module _ (c d : ℕ) (acts : Acts N r c) (busy : (r.at d).round ≢ Idle) (level : (e : ℕ) → Acts N r e → (r.at e).closed ≡ (r.at c).closed)
           (least : (e : ℕ) → Acts N r e → far c ≤ far e) (live : Acts N r d) where
+        pub low : (r.at c).closed < slots
+        low = let l = (steady d).within busy in let e = level d live in omega arith
+
         -- what it waits for was sent by all running ones
-        waits : (so : Sort) → Due N so (r.at c).phase → (r.at c).round ≡ round_of so → (quorum N ≤ heard_count N (r.at c) so (r.at c).phase → Goal) → Goal
+        pub waits : (so : Sort) → Due N so (r.at c).phase → (r.at c).round ≡ round_of so → (quorum N ≤ heard_count N (r.at c) so (r.at c).phase → Goal) → Goal
         waits so due was next = let p = (r.at c).phase in either (leb (quorum N) (heard_count N (r.at c) so p)) (λ t. next (leb-true _ _ t))
             (λ t. let (e, there, a, b) = differ_below n (λ e. not (r.at e).crashed) (λ e. is_sent (seen (r.at c) so p e))
             (omega (arith, leb-false (quorum N) (heard_count N (r.at c) so p) t, count_not n (λ c. (r.at c).crashed))) in
-            inl (can_hear c acts so p e (low N fits r inv steady few c d acts busy level least live) (due_in N so p due) there (sent e (record { there = there; running = not-true _ a })) b))
+            inl (can_hear c acts so p e low (due_in N so p due) there (sent e (record { there = there; running = not-true _ a })) b))
           where
             sent : (e : ℕ) → Acts N r e → is_sent (r.sent so (r.at c).closed (r.at c).phase e) ≡ true
             sent e it = rw (← level e it) ((steady e).so_far so (r.at c).phase due (let l = least e it in rw was at l))
-
-        goes_on : (a : Round) → (r.at c).round ≡ a → Phased N a (r.at c).phase → Goal
-        unfolding advance_rule Unmet
-        goes_on Idle was h = let (x, ne, said) = (steady d).bid busy in let el = (inv.replica d).proposals _ x said in
-            inl (begins c acts x d ne (rw (level d live) at el) (level d live) was (low N fits r inv steady few c d acts busy level least live))
-        goes_on Exchange was h = waits Proposals h was (λ q. inl (in_round c acts was (λ flip. ((le-ltb _ _ (rw h at q), tt), refl))))
-        goes_on State was h = waits States h was (λ q. inl (in_round c acts was (λ flip. ((le-ltb _ _ q, tt), refl))))
-        goes_on Vote was h = waits Votes h was (votes c acts was)
-        goes_on Find was h = inl (finds c acts was)
-
-      pub onward : (c : ℕ) → c < n → (r.at c).crashed ≡ false → (r.at c).round ≢ Idle → Goal
-      onward c there running busy = either (any n apart)
-          (λ t. let (d, l, e) = any_place n apart t in let (a, b) = and_true (not (r.at d).crashed) _ e in
-          inl (split d (record { there = l; running = not-true _ a }) (eqb-false _ _ (not-true _ b)) (dec_lt (r.at c).closed (r.at d).closed)))
-          (λ t. let u = least_of n (λ d. not (r.at d).crashed) far (far c) c (le_refl _) there (ap not running) in
-          let acts : Acts N r u.who = record { there = u.there; running = not-true _ u.passes } in
-          goes_on u.who c acts busy (λ e it. same t e it ∙ sym (same t u.who acts)) (λ e it. u.least e it.there (ap not it.running))
-          live _ refl (steady u.who).phased)
-        where
-          live : Acts N r c
-          live = record { there = there; running = running }
-
-          -- running, and in another slot
-          apart : ℕ → Bool
-          apart d = not (r.at d).crashed && not (eqb (r.at d).closed (r.at c).closed)
-
-          same : any n apart ≡ false → (d : ℕ) → Acts N r d → (r.at d).closed ≡ (r.at c).closed
-          same t d it = eqb-true _ _ (not-false _ (fails _ _ (ap not it.running) (any_false n apart t d it.there)))
-
-          split : (d : ℕ) → Acts N r d → (r.at d).closed ≢ (r.at c).closed → Dec ((r.at c).closed < (r.at d).closed) → CanMove N (by_rules N r)
-          split d it ne (yes l) = behind c live d it.there l
-          split d it ne (no l) = behind d it c there (omega arith)

@@ -5,15 +5,14 @@
 use Prim.Native.Nat.{ℕ, zero, suc, ◌+◌, ◌≤◌, ◌<◌}
 use Rattle.std.proofs.Common.{arith, ⊎_elim, ◌∙◌}
 use Rattle.std.proofs.Math.Decide.{ℕ_discrete}
-use Rattle.std.specs.Prelude.{Bool, true, List, ◌⊎◌, ◌≢◌, ◌≡◌}
+use Rattle.std.specs.Prelude.{Bool, true, List, ◌⊎◌, ◌≡◌}
 use Rattle.std.proofs.Math.Bool.{false, not}
 use Rattle.std.proofs.Math.Path.{refl, sym, ap}
 use Rattle.std.proofs.Math.Dec.{leb}
 use borrow.Author.Tests.{eq-eqb, leb-true, le-leb, lt-leb, le-ltb}
-use Rattle.safety.specs.Types.{Numbers, Idle, Sort, Proposals, States, Votes}
+use Rattle.safety.specs.Types.{Numbers, Sort, Proposals, States, Votes}
 use Rattle.safety.specs.Types.{Notices, Word, Tag, Outcome, Undecided, Decided, Effect, Refuse}
 use Rattle.safety.specs.Types.{Act, Step}
-use Rattle.model.specs.Tests.{count}
 use Rattle.model.specs.Rack.{is, is_sent, tag_of, Replica, Rack}
 use Rattle.model.specs.TurnedAway.{Rule, settle}
 use Rattle.model.specs.Rules.{is_crash, seen, majority, tally}
@@ -25,7 +24,7 @@ use Rattle.model.proofs.Cases.{is_true, is_yes}
 use Rattle.safety.specs.Claims.{LongStrip, by_rules, CanMove, UsedUp}
 use Rattle.safety.specs.Board.{one_tag}
 use Rattle.safety.specs.Comes.{Acts}
-use Rattle.safety.specs.Invariant.{progress, Invariant}
+use Rattle.safety.specs.Invariant.{Invariant}
 use Rattle.safety.specs.Below.{some_below}
 use Rattle.safety.specs.Steady.{Due, SteadyRack}
 
@@ -101,15 +100,3 @@ module _ (N : Numbers) where
 
       pub unheard : (so : Sort) (p d : ℕ) (w : Word) → r.sent so k.closed p d ≡ w → is w (seen k so p d) ≡ false → is_sent (seen k so p d) ≡ false
       unheard so p d w said b = ⊎_elim (λ z. ap is_sent z) (λ q. clash (sym b ∙ is_yes w _ (q ∙ said))) ((inv.replica c).heard so k.closed p d)
-
-    -- ---- with a quorum running
-
-    module _ (few : count n (λ c. (r.at c).crashed) ≤ f) where
-      abbrev far : ℕ → ℕ
-      far c = progress (r.at c).round (r.at c).phase
-
-      -- c is the least far of the running ones, which are all in one slot, and d is in a round
-      module _ (c d : ℕ) (acts : Acts N r c) (busy : (r.at d).round ≢ Idle) (level : (e : ℕ) → Acts N r e → (r.at e).closed ≡ (r.at c).closed)
-          (least : (e : ℕ) → Acts N r e → far c ≤ far e) (live : Acts N r d) where
-        pub low : (r.at c).closed < slots
-        low = let l = (steady d).within busy in let e = level d live in omega arith

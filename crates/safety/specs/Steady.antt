@@ -1,17 +1,15 @@
 -- Where a replica of a run stands: its round, slot and phase go together, and it has sent all messages of its slot that it
 -- has come past. specs/Invariant tells what it has not sent; this is the other half, by which no run is ever stuck.
-use Rattle.std.specs.Prelude.{ℕ, suc, ◌≤◌, ◌<◌, true, ◌≢◌, ◌≡◌}
+use Rattle.std.specs.Prelude.{ℕ, ◌≤◌, ◌<◌, true, ◌≢◌, ◌≡◌}
 use native.Mathlib.Omega.{arith}
-use Rattle.std.proofs.Math.Decide.{ℕ_discrete}
 use Rattle.std.proofs.Math.Path.{refl, sym}
-use Rattle.std.proofs.Common.{◌∙◌, ap, subst}
+use Rattle.std.proofs.Common.{◌∙◌, ap}
 use Rattle.safety.specs.Types.{Numbers, Round, Idle, Exchange, State, Vote, Find, Sort, Proposals, States, Votes, Notices, Word, Tag}
-use Rattle.model.specs.Tests.{set}
-use Rattle.model.specs.Rack.{round_of, is_sent, Messages, put, Replica, Rack, sending}
+use Rattle.model.specs.Rack.{round_of, is_sent, Messages, Replica, Rack}
 use Rattle.model.specs.Rules.{vote_of}
-use Rattle.model.proofs.Cases.{if-ind, set-ind, put_same}
+use Rattle.model.proofs.Cases.{if-ind}
 use Rattle.safety.specs.Grow.{Grows, stays}
-use Rattle.safety.specs.Invariant.{progress, place, Invariant}
+use Rattle.safety.specs.Invariant.{progress, place}
 
 module _ (N : Numbers) where
   open N use {slots, phases}
@@ -33,7 +31,7 @@ module _ (N : Numbers) where
   due_later Notices p h = absurd h
 
   -- each has a place of its own
-  one_place : (so so' : Sort) (p p' : ℕ) → Due so p → Due so' p' → place so p ≡ place so' p' → (so ≡ so') × (p ≡ p')
+  pub one_place : (so so' : Sort) (p p' : ℕ) → Due so p → Due so' p' → place so p ≡ place so' p' → (so ≡ so') × (p ≡ p')
   unfolding progress
   one_place Proposals Proposals p p' a b e = (refl, a ∙ sym b)
   one_place Proposals States p p' a b e = absurd (omega arith)
@@ -92,10 +90,10 @@ module _ (N : Numbers) where
   pub bid_grows : {m m' : Messages} (s c : ℕ) → Grows m m' → Bid m s c → Bid m' s c
   bid_grows s c g (x, ne, e) = (x, ne, stays g Proposals s 0 c refl e)
 
-  sent_grows : {m m' : Messages} → Grows m m' → (so : Sort) (s p c : ℕ) → is_sent (m so s p c) ≡ true → is_sent (m' so s p c) ≡ true
+  pub sent_grows : {m m' : Messages} → Grows m m' → (so : Sort) (s p c : ℕ) → is_sent (m so s p c) ≡ true → is_sent (m' so s p c) ≡ true
   sent_grows g so s p c h = ap is_sent (stays g so s p c h refl) ∙ h
 
-  due_phased : (so : Sort) (p : ℕ) → Due so p → Phased (round_of so) p
+  pub due_phased : (so : Sort) (p : ℕ) → Due so p → Phased (round_of so) p
   due_phased Proposals p h = h
   due_phased States p h = h
   due_phased Votes p h = h
@@ -103,37 +101,3 @@ module _ (N : Numbers) where
 
   pub vote_sent : (k : Replica) → is_sent (vote_of N k) ≡ true
   vote_sent k = if-ind (λ (w : Word). is_sent w ≡ true) _ (λ _. refl) (λ _. if-ind (λ (w : Word). is_sent w ≡ true) _ (λ _. refl) (λ _. refl))
-
-  module _ (some : 1 ≤ phases) (r : Rack) (inv : Invariant N r) (old : SteadyRack r) (c : ℕ) where
-    -- replica c has another record, and the board has grown
-    pub changed : {m : Messages} (k : Replica) → Grows r.sent m → Stands m c k → (d : ℕ) → Stands m d (set c k r.at d)
-    changed {m} k g new d = set-ind (Stands m d) c r.at d (λ e. rw e new) (λ _. let was = old d in record {
-      low = was.low;
-      within = was.within;
-      phased = was.phased;
-      bid = λ ne. bid_grows (r.at d).closed d g (was.bid ne);
-      so_far = λ so p due l. sent_grows g so (r.at d).closed p d (was.so_far so p due l);
-    })
-
-    module _ {a : Round} (was : (r.at c).round ≡ a) where
-      pub stood : Steady r.sent c a (r.at c).closed (r.at c).phase
-      stood = subst (λ (a : Round). Steady r.sent c a (r.at c).closed (r.at c).phase) was (old c)
-
-      -- the message that comes next is sent
-      pub sender : (so : Sort) (p : ℕ) (w : Word) → place so p ≡ suc (progress a (r.at c).phase) → Due so p → is_sent w ≡ true → (r.at c).closed < slots
-          → (let m = put so (r.at c).closed p c w r.sent in Grows r.sent m → Bid m (r.at c).closed c → Stands m c (sending c so p w (r.at c)))
-      sender so p w next due sent low g bid = record {
-        low = omega arith;
-        within = λ _. low;
-        phased = due_phased so p due;
-        bid = λ _. bid;
-        so_far = λ so' p' due' l. go so' p' due' l (ℕ_discrete (place so p) (place so' p'));
-      }
-        where
-          m : Messages
-          m = put so (r.at c).closed p c w r.sent
-
-          go : (so' : Sort) (p' : ℕ) → Due so' p' → place so' p' ≤ place so p → Dec (place so p ≡ place so' p') → is_sent (m so' (r.at c).closed p' c) ≡ true
-          go so' p' due' l (yes e) = let (i, j) = one_place so so' p p' due due' e in
-              rw (← i, ← j) (ap is_sent (put_same so (r.at c).closed p c w r.sent) ∙ sent)
-          go so' p' due' l (no ne) = sent_grows g so' (r.at c).closed p' c (stood.so_far so' p' due' (omega arith))

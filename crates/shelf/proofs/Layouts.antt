@@ -1,12 +1,13 @@
 -- What Point 7 says of the two layouts, as theorems. Nothing here needs the limits of the calls.
 use Rattle.std.specs.Prelude.{ℕ, ◌+◌, ◌*◌, ◌/◌, ◌%◌, ◌^◌, ◌<◌, ◌≡◌, length, get_or}
-use Rattle.std.proofs.Common.{sym, ap, ◌∙◌, div-add-mod', ext_get_or}
+use Rattle.std.proofs.Common.{ap, ◌∙◌, div-add-mod', ext_get_or}
+use native.Mathlib.Omega.{arith}
 use mathlib.Core.List.{List, Permᴰ}
 use Rattle.shelf.specs.Planes.{upto, entry_bytes, byte, planes, log_bytes, joined, entry_at, entry_count, entries_of}
 use Rattle.shelf.specs.Grid.{row_inside, column_inside, moved, moved_cell}
 use Rattle.shelf.specs.Bytes.{same_made}
 use Rattle.shelf.proofs.Bytes.{joined_bytes}
-use Rattle.shelf.specs.Layouts.{Below, by_entry, by_plane, byte_again, count_again, eight, length_again, length_entries, length_planes, occurrences, reordered, same_occurrences}
+use Rattle.shelf.specs.Layouts.{Below, by_plane, byte_again, eight, length_again, length_entries, length_planes, occurrences, reordered, same_occurrences}
 
 -- where each stored byte stands in the log; by `moved_inside` and `moved_back` every place is met once
 pub moves : (entries : List ℕ) (place : ℕ) → place < entry_bytes * length entries
@@ -20,17 +21,14 @@ as_often entries b = same_occurrences b (reordered entries)
 -- ---- "Doing both, from either side, returns the start."
 
 module _ (entries : List ℕ) (fit : Below (2 ^ 64) entries) where
-  entry_again : (j : ℕ) → j < length entries → entry_at (length entries) (planes entries) j ≡ get_or entries j 0
+  pub count_again : entry_count (planes entries) ≡ length entries
+  count_again = rw (length_planes entries) (omega arith)
+
+  pub entry_again : (j : ℕ) → j < length entries → entry_at (length entries) (planes entries) j ≡ get_or entries j 0
   entry_again j h =
       ap joined
       (same_made (λ p. get_or (planes entries) (p * length entries + j) 0) (λ p. byte p (get_or entries j 0)) entry_bytes (λ p hp. by_plane entries p j hp h))
       ∙ joined_bytes (get_or entries j 0) (fit j)
-
-  pub entries_again : entries_of (planes entries) ≡ entries
-  entries_again =
-      let same = length_entries (planes entries) ∙ count_again entries fit in
-      ext_get_or 0 (entries_of (planes entries)) entries same
-      (λ j h. by_entry (planes entries) j (rw (sym (length_entries (planes entries))) h) ∙ rw (count_again entries fit) (entry_again j (rw same at h)))
 
 module _ (stored : List ℕ) (fit : Below 256 stored) (even : length stored % entry_bytes ≡ 0) where
   abbrev count : ℕ

@@ -1,3 +1,4 @@
 pub mod Bytes
 pub mod Layouts
 pub mod Returns
+pub mod Again

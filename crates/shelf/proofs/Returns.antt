@@ -9,7 +9,8 @@ use Rattle.model.proofs.Cases.{Unmet}
 use Rattle.shelf.specs.Planes.{entry_bytes, planes, entry_count, entries_of}
 use Rattle.shelf.specs.Calls.{planes_refusals, entries_refusals, over, to_planes, to_entries}
 use Rattle.shelf.specs.Layouts.{Below, length_planes, length_entries}
-use Rattle.shelf.proofs.Layouts.{entries_again, planes_again}
+use Rattle.shelf.proofs.Layouts.{planes_again}
+use Rattle.shelf.proofs.Again.{entries_again}
 use Rattle.shelf.specs.Returns.{EntriesFit, PlanesFit, accepts, entries_accepted, front, planes_accepted}
 
 -- ---- accepted exactly if within the limits, with room for the result

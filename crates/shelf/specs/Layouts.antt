@@ -1,5 +1,5 @@
 -- What Point 7 says of the two layouts, as theorems. Nothing here needs the limits of the calls.
-use Rattle.std.specs.Prelude.{ℕ, ◌+◌, ◌*◌, ◌%◌, ◌^◌, ◌<◌, ◌≡◌, refl, eqb, length, get_or}
+use Rattle.std.specs.Prelude.{ℕ, ◌+◌, ◌*◌, ◌%◌, ◌<◌, ◌≡◌, refl, eqb, length, get_or}
 use Rattle.std.proofs.Common.{◌∙◌, arith}
 use mathlib.Core.List.{List, [], ◌∷◌, Permᴰ}
 use Rattle.std.proofs.Math.Nat.{suc-sub-suc}
@@ -49,10 +49,6 @@ same_occurrences b (Permᴰ.swap e e') = rw (e, e') (omega arith)
 same_occurrences b (Permᴰ.trans d d') = same_occurrences b d ∙ same_occurrences b d'
 
 -- ---- "Doing both, from either side, returns the start."
-
-module _ (entries : List ℕ) (fit : Below (2 ^ 64) entries) where
-  pub count_again : entry_count (planes entries) ≡ length entries
-  count_again = rw (length_planes entries) (omega arith)
 
 module _ (stored : List ℕ) (fit : Below 256 stored) (even : length stored % entry_bytes ≡ 0) where
   abbrev pub count : ℕ
