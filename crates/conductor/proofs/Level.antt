@@ -46,7 +46,8 @@ module _ (N : Numbers) (r : Rack) (strip : List ℕ) where
 
           within : (y : ℕ) → pending (holding x (r.at c)) y ≡ true → pending_somewhere N r y ≡ true
           within y = set-ind (λ (b : Bool). (b && not (logged (r.at c) y)) ≡ true → pending_somewhere N r y ≡ true) x (r.at c).held y
-              (λ e _. rw e (any_here n _ (holder N r strip level).0 (holder N r strip level).1 (holder N r strip level).2)) (λ _ h. any_here n _ c l (and_both (is_running N r c) _ on h))
+              (λ e _. rw e (any_here n _ (holder N r strip level).0 (holder N r strip level).1 (holder N r strip level).2))
+              (λ _ h. any_here n _ c l (and_both (is_running N r c) _ on h))
 
       waits : (r' : Rack) → r'.at c ≡ holding x (r.at c) → Waiting N r c (card r' c)
       waits r' e = rw e (record {

@@ -128,5 +128,6 @@ module _ (N : Numbers) (r : Rack) (strip : List ℕ) (level : Level N r strip) w
     pub hear_turn : Turn c (InRound N r so n) (hears_all N r so c) (running_count N r - 1) h
     hear_turn =
         let start : At 0 h = record { reached = λ d q. rw q now; others = λ d ne. refl; known = refl } in
-        let (moved, counted) = each (here N strip) n (other N r c) hear 1 At hears_next (passes_over N r strip level so c l on h all now) n (le_refl n) h start in
+        let (moved, counted) = each (here N strip) n (other N r c) hear 1 At hears_next (passes_over N r strip level so c l on h all now) n
+        (le_refl n) h start in
         record { moved = moved; counted = omega (arith, counted, count_others n (is_running N r) c l on) }

@@ -44,9 +44,11 @@ module _ (N : Numbers) (t : Tables) (fine : Sound N t) where
       parts_back = record {
         words = (own_parts N t fine).words;
         orders = proposal_ind (Part (orders_need N) t.orders) so _ _ _
-            (part_stored (own_parts N t fine).orders _ _ (let h = proposal_in N slot c (inside N t fine c there so p w ok).slot there in omega arith)) (own_parts N t fine).orders;
+            (part_stored (own_parts N t fine).orders _ _ (let h = proposal_in N slot c (inside N t fine c there so p w ok).slot there in omega arith))
+            (own_parts N t fine).orders;
         ballots = ballot_ind (Part (ballots_need N) t.ballots) so _ _ _
-            (part_stored (own_parts N t fine).ballots _ _ (ballot_in N fine.within.phases_some so _ _ _ (inside N t fine c there so p w ok))) (own_parts N t fine).ballots;
+            (part_stored (own_parts N t fine).ballots _ _ (ballot_in N fine.within.phases_some so _ _ _ (inside N t fine c there so p w ok)))
+            (own_parts N t fine).ballots;
       }
 
     -- what is written, whether or not a message was sent before

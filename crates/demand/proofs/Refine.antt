@@ -30,7 +30,10 @@ use Rattle.tables.specs.Sections.{SameTags}
 use Rattle.demand.specs.Alike.{record_alike, written_alike, noting_alike, inbox_alike, log_alike}
 use Rattle.demand.specs.Parts.{Parts}
 use Rattle.demand.specs.Writable.{Sendable, Hearable, Writable}
-use Rattle.demand.specs.Refine.{closed_set, head_kept, head_same, heard_apart, heard_kept, heard_same, holders_kept, holders_same, keeps_closed, keeps_held, keeps_logs, keeps_records, keeps_sent, known_same, logs_apart, marks_same, moved_in, no_notice, parts_set, proposals_apart, records_apart, replica_there, same_logs, same_records, sent_before, sent_within, set-ext, set_self, slot_is, slot_low, unheard_before, unsent_before}
+use Rattle.demand.specs.Refine.{closed_set, head_kept, head_same, heard_apart, heard_kept, heard_same, holders_kept, holders_same, keeps_closed}
+use Rattle.demand.specs.Refine.{keeps_held, keeps_logs, keeps_records, keeps_sent, known_same, logs_apart, marks_same, moved_in, no_notice, parts_set}
+use Rattle.demand.specs.Refine.{proposals_apart, records_apart, replica_there, same_logs, same_records, sent_before, sent_within, set-ext, set_self}
+use Rattle.demand.specs.Refine.{slot_is, slot_low, unheard_before, unsent_before}
 
 module _ (N : Numbers) where
   open N use {n, slots, room}
@@ -77,12 +80,15 @@ module _ (N : Numbers) where
         → replica_in N k' (log_in N os c) (held c) (inboxes c) ≡ change (replica_at N t c)
         → view N (record { words = record_stored ws c k'; orders = os; ballots = t.ballots })
         ≡ record { known = (view N t).known; sent = (view N t).sent; at = set c (change ((view N t).at c)) (view N t).at }
-    record_only k' stays change q = let same = keeps_sent N bounds t parts few c there (keeps_closed N bounds t parts few c there k' stays (records_changed k')) (agree_self os) (agree_self os) in λ i. record {
-      known = known_same N bounds t parts few c there os (head_kept N bounds t parts few c there ws k') refl i;
-      sent = guarded_ext N same i;
-      at = replicas k' (records_changed k') (keeps_logs N bounds t parts few c there (agree_self os)) (keeps_held N bounds t parts few c there (head_kept N bounds t parts few c there ws k') (agree_self os) (holders_kept N bounds t parts few c there ws k'))
-          (λ d. inbox_alike N same (heard_kept N bounds t parts few c there ws k') d ∙ set_self N inboxes c d) change q i;
-    }
+    record_only k' stays change q = let same = keeps_sent N bounds t parts few c there
+        (keeps_closed N bounds t parts few c there k' stays (records_changed k')) (agree_self os) (agree_self os) in λ i. record {
+          known = known_same N bounds t parts few c there os (head_kept N bounds t parts few c there ws k') refl i;
+          sent = guarded_ext N same i;
+          at = replicas k' (records_changed k') (keeps_logs N bounds t parts few c there (agree_self os))
+              (keeps_held N bounds t parts few c there (head_kept N bounds t parts few c there ws k') (agree_self os)
+              (holders_kept N bounds t parts few c there ws k'))
+              (λ d. inbox_alike N same (heard_kept N bounds t parts few c there ws k') d ∙ set_self N inboxes c d) change q i;
+        }
 
     -- ---- a message that is sent: marked for its sender alone, whose record changes
 
@@ -100,7 +106,8 @@ module _ (N : Numbers) where
       sent_records : (d : ℕ) → d < n → record_at ws' d ≡ set c (move k) (record_at ws) d
       sent_records d low =
           ap (λ (g : ℕ → Record). g d) (records_set marked c _ (rw length-set (let l = parts.words.enough in omega arith)))
-          ∙ set-ext N c (record_at marked) (record_at ws) d (ap move (record_alike N (same_records N bounds t parts few c there so p move) c there)) (record_alike N (same_records N bounds t parts few c there so p move) d low)
+          ∙ set-ext N c (record_at marked) (record_at ws) d (ap move (record_alike N (same_records N bounds t parts few c there so p move) c there))
+          (record_alike N (same_records N bounds t parts few c there so p move) d low)
 
       module _ (w : Word) (inside : Within N so k.slot p c) (blank : sent so k.slot p c ≡ Unsent) where
         sends : (os' bs' : List ℕ) {l : ℕ → ℕ} → take (known_in ws) os' ≡ take (known_in ws) os → SameTags N os os'
@@ -111,9 +118,12 @@ module _ (N : Numbers) where
         sends os' bs' known tags logs alters change q = λ i. record {
           known = known_same N bounds t parts few c there os' (head_same N bounds t parts few c there so p move) known i;
           sent = (guarded_put N sent so k.slot p c w inside alters ∙ ap (λ (s : ℕ). put so s p c w (view N t).sent) (slot_is N t c there)) i;
-          at = replicas (move k) sent_records logs (keeps_held N bounds t parts few c there (head_same N bounds t parts few c there so p move) tags (holders_same N bounds t parts few c there so p move))
-              (λ d. inbox_alike N (λ so s p d w. refl) (marks_same N bounds t parts few c there so p move) d ∙ ap (λ (g : ℕ → Messages). g d) (inboxes_set N ws parts.words.enough
-              so k.slot p c inside sent _ w alters (2 ^ c) c (has_one c c ∙ eq-eqb c c refl) (unheard_before N bounds t parts few c there so p move w inside blank))) change q i;
+          at = replicas (move k) sent_records logs (keeps_held N bounds t parts few c there (head_same N bounds t parts few c there so p move) tags
+              (holders_same N bounds t parts few c there so p move))
+              (λ d. inbox_alike N (λ so s p d w. refl) (marks_same N bounds t parts few c there so p move) d
+              ∙ ap (λ (g : ℕ → Messages). g d) (inboxes_set N ws parts.words.enough
+              so k.slot p c inside sent _ w alters (2 ^ c) c (has_one c c ∙ eq-eqb c c refl)
+              (unheard_before N bounds t parts few c there so p move w inside blank))) change q i;
         }
 
     module _ (so : Sort) (p : ℕ) (w : Word) (ok : Sendable N (view N t) c so p w) where
@@ -131,7 +141,8 @@ module _ (N : Numbers) where
 
       sent_alters : Alters N so k.slot p c w sent (sent_words N (words_sent N c so p ws) os_sent bs_sent)
       sent_alters so' s' p' d' w' =
-          noting_alike N {m = written_words N os_sent bs_sent} (keeps_closed N bounds t parts few c there _ refl (sent_records so p (moved (round_of so) k.slot p)))
+          noting_alike N {m = written_words N os_sent bs_sent}
+          (keeps_closed N bounds t parts few c there _ refl (sent_records so p (moved (round_of so) k.slot p)))
           (log_alike N (same_logs N bounds t parts few c there so p w ok)) (λ so s p d w. refl)
           so' s' p' d' w'
           ∙ noting_put N (closed_in ws) (log_in N os) (written_words N os t.ballots) so k.slot p c w ok.plain
@@ -161,36 +172,46 @@ module _ (N : Numbers) where
       mask = get_or ws (heard_cell N so s p d) 0
 
       heard_sent : SameInRun N (sent_words N (words_received N c so s p d ws) os t.ballots) sent
-      heard_sent = keeps_sent N bounds t parts few c there (keeps_closed N bounds t parts few c there k refl (keeps_records N bounds t parts few c there (elsewhere ws (heard_cell N so s p d) _ (inr (omega arith))))) (agree_self os) (agree_self os)
+      heard_sent = keeps_sent N bounds t parts few c there
+          (keeps_closed N bounds t parts few c there k refl
+          (keeps_records N bounds t parts few c there (elsewhere ws (heard_cell N so s p d) _ (inr (omega arith))))) (agree_self os) (agree_self os)
 
       sent_still : Alters N so s p d w sent (sent_words N (words_received N c so s p d ws) os t.ballots)
-      sent_still so' s' p' d' inside = heard_sent so' s' p' d' inside ∙ ap (λ (m : Messages). m so' s' p' d') (sym (put_self sent so s p d (sent_before N bounds t parts few c there so s p d w ok)))
+      sent_still so' s' p' d' inside = heard_sent so' s' p' d' inside
+          ∙ ap (λ (m : Messages). m so' s' p' d') (sym (put_self sent so s p d (sent_before N bounds t parts few c there so s p d w ok)))
 
     pub refines : (e : Effect) → Writable N (view N t) c e → view N (write N c e t) ≡ apply c e (view N t)
     unfolding write apply
     refines (Refuse why) ok = refl
     refines (Hold x) ok =
-        let same = keeps_sent N bounds t parts few c there (keeps_closed N bounds t parts few c there k refl (keeps_records N bounds t parts few c there (records_apart N bounds t parts few c there x ok))) (proposals_apart N bounds t parts few c there x ok) (logs_apart N bounds t parts few c there x ok) in λ i. record {
+        let same = keeps_sent N bounds t parts few c there
+        (keeps_closed N bounds t parts few c there k refl (keeps_records N bounds t parts few c there (records_apart N bounds t parts few c there x ok)))
+        (proposals_apart N bounds t parts few c there x ok) (logs_apart N bounds t parts few c there x ok) in λ i. record {
           known = known_adding N os ws few parts.orders.enough parts.words.enough x ok c i;
           sent = guarded_ext N same i;
-          at = replicas k (keeps_records N bounds t parts few c there (records_apart N bounds t parts few c there x ok)) (keeps_logs N bounds t parts few c there (logs_apart N bounds t parts few c there x ok))
+          at = replicas k (keeps_records N bounds t parts few c there (records_apart N bounds t parts few c there x ok))
+              (keeps_logs N bounds t parts few c there (logs_apart N bounds t parts few c there x ok))
               (holds_set N os ws few parts.orders.enough parts.words.enough x ok c)
               (λ d. inbox_alike N same (heard_apart N bounds t parts few c there x ok) d ∙ set_self N inboxes c d) (holding x) refl i;
         }
     refines (Send so p w) ok =
-        sends so p (moved (round_of so) k.slot p) w (inside so p w ok) (unsent_before N bounds t parts few c there so p w ok) (os_sent so p w ok) (bs_sent so p w ok)
+        sends so p (moved (round_of so) k.slot p) w (inside so p w ok) (unsent_before N bounds t parts few c there so p w ok) (os_sent so p w ok)
+        (bs_sent so p w ok)
         (proposal_ind (λ (l : List ℕ). take (known_in ws) l ≡ take (known_in ws) os) so _ _ os (take-set-le (known_in ws) os _ _ (omega arith)) refl)
         (proposal_ind (SameTags N os) so _ _ os (elsewhere os _ _ (inr (omega arith))) (agree_self os))
-        (keeps_logs N bounds t parts few c there (same_logs N bounds t parts few c there so p w ok)) (sent_alters so p w ok) (sending c so p w) (moved_in N (round_of so) _ _ k _ _ _)
+        (keeps_logs N bounds t parts few c there (same_logs N bounds t parts few c there so p w ok)) (sent_alters so p w ok) (sending c so p w)
+        (moved_in N (round_of so) _ _ k _ _ _)
     refines (Close x own) low =
-        sends Notices 0 (shut x own) (Tag x) (notice_within N there (slot_low N t c there low)) (no_notice N bounds t parts few c there x own low) (os_closed x own low) t.ballots
+        sends Notices 0 (shut x own) (Tag x) (notice_within N there (slot_low N t c there low)) (no_notice N bounds t parts few c there x own low)
+        (os_closed x own low) t.ballots
         (take-set-le (known_in ws) os (cell x own low) x (omega arith)) (elsewhere os (cell x own low) x (inr (omega arith)))
         (logs_changed x own low) (close_alters x own low) (closing c x own) (moved_in N Idle _ _ (shut x own k) _ _ _)
     refines Seek ok = record_only _ refl seeking (moved_in N Find _ _ k _ _ _)
     refines (Receive so s p d w) ok = let at = heard_cell N so s p d in let m = with_bit (mask so s p d w ok) c in λ i. record {
       known = known_same N bounds t parts few c there os (elsewhere ws at m (inr (omega arith))) refl i;
       sent = guarded_ext N (heard_sent so s p d w ok) i;
-      at = replicas k (keeps_records N bounds t parts few c there (elsewhere ws at m (inr (omega arith)))) (keeps_logs N bounds t parts few c there (agree_self os))
+      at = replicas k (keeps_records N bounds t parts few c there (elsewhere ws at m (inr (omega arith))))
+          (keeps_logs N bounds t parts few c there (agree_self os))
           (keeps_held N bounds t parts few c there (elsewhere ws at m (inr (omega arith))) (agree_self os) (elsewhere ws at m (inr (omega arith))))
           (λ e. ap (λ (g : ℕ → Messages). g e) (inboxes_set N ws parts.words.enough so s p d ok.within sent _ w (sent_still so s p d w ok) m c
           (has_with _ c c ∙ ap (λ (b : Bool). b || has_bit (mask so s p d w ok) c) (eq-eqb c c refl)) (heard_same N bounds t parts few c there so s p d w ok)))

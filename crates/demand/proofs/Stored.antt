@@ -85,7 +85,8 @@ module _ (N : Numbers) where
           → Fine (with_change (store_at t.words (heard_cell N so k.slot p c) (2 ^ c)) c move)
       changed_fine so p move fine =
           let same : SameRecords N t.words _ = elsewhere t.words (heard_cell N so k.slot p c) (2 ^ c) (inr (omega arith)) in
-          stored_fine _ (rw length-set parts.words.enough) (kept_fine N bounds t parts few c there unspoiled same) _ (ap (λ (k : Record). spoiled N (move k)) (record_alike N same c there) ∙ fine)
+          stored_fine _ (rw length-set parts.words.enough) (kept_fine N bounds t parts few c there unspoiled same) _
+          (ap (λ (k : Record). spoiled N (move k)) (record_alike N same c there) ∙ fine)
 
       abbrev fit : CountsFit k
       fit = fine_counts N k (unspoiled c there)
@@ -98,5 +99,6 @@ module _ (N : Numbers) where
           changed_fine so p (moved (round_of so) k.slot p) (moved_fine N (round_of so) k.slot p k placed fit)
       write_unspoiled (Close x own) ok = changed_fine Notices 0 (shut x own) (shut_fine N x own k (slot_low N t c there ok) fit)
       write_unspoiled Seek ok = stored_fine _ parts.words.enough unspoiled _ (moved_fine N Find _ k.phase k (lt-leb _ _ (slot_low N t c there ok)) fit)
-      write_unspoiled (Receive so s p d w) ok = kept_fine N bounds t parts few c there unspoiled (elsewhere t.words (heard_cell N so s p d) _ (inr (omega arith)))
+      write_unspoiled (Receive so s p d w) ok = kept_fine N bounds t parts few c there unspoiled
+          (elsewhere t.words (heard_cell N so s p d) _ (inr (omega arith)))
       write_unspoiled Halt ok = stored_fine _ parts.words.enough unspoiled _ (unspoiled c there)

@@ -19,4 +19,5 @@ module _ (N : Numbers) where
     module _ (inv : Invariant N r) where
       pub writable : {c : ℕ} {a : Act} {e : Effect} → Acts N r c → ByRule N r (r.at c) a e → Allowed N r c e → Writable N r c e
       writable {c} {e = e} acts rule may =
-          (fits_fresh N) r c e (fitting N bounds r placed acts (noticed_low N bounds r placed inv c) rule) (λ so p w q. sends_unsent N r inv c so p w (subst (Allowed N r c) q may))
+          (fits_fresh N) r c e (fitting N bounds r placed acts (noticed_low N bounds r placed inv c) rule)
+          (λ so p w q. sends_unsent N r inv c so p w (subst (Allowed N r c) q may))

@@ -31,7 +31,8 @@ use Rattle.files.specs.Play.{Turn, out_of_place, too_large, moved_on, called_in_
 use Rattle.files.specs.PlayLaws.{on_misplaced, on_call}
 use Rattle.files.specs.Reported.{fresh}
 use Rattle.files.specs.Unopened.{step_answer, run_answer, conduct_answer}
-use Rattle.files.specs.Played.{Opening, Running, SafeSession, Stage, after_more, calls_made, history_says, makes_none, run_more, running, still_open, too_early, tries, waiting, with_made}
+use Rattle.files.specs.Played.{Opening, Running, SafeSession, Stage, after_more, calls_made, history_says, makes_none, run_more, running, still_open}
+use Rattle.files.specs.Played.{too_early, tries, waiting, with_made}
 
 module _ (most : Numbers) (file : List ℕ) (N : Numbers) (t : Tables) (strip : List ℕ) where
   -- the outcome of a call that is in place
@@ -172,7 +173,8 @@ module _ (most : Numbers) (file : List ℕ) (t : Tables) (strip : List ℕ) wher
   }
 
   pub demand_3_played : (k : ℕ) → let x = play k most file (begun fresh t strip) in
-      ((x.player.opened ≡ false) × (x.tables ≡ t) × (x.strip ≡ strip)) ⊎ ((q : Plan) × SafeSession most file t strip q x (calls_made k most file (begun fresh t strip)))
+      ((x.player.opened ≡ false) × (x.tables ≡ t) × (x.strip ≡ strip))
+      ⊎ ((q : Plan) × SafeSession most file t strip q x (calls_made k most file (begun fresh t strip)))
   demand_3_played k = go (stages k)
     where
       go : {x : Turn} {items : List Item} → Stage most file t strip x items

@@ -17,7 +17,8 @@ use Rattle.files.specs.TurnForms.{SameTurn}
 use Rattle.files.proofs.TurnForms.{same_turns}
 use Rattle.files.specs.Reported.{said_line, line_on, lines, ending, fresh, whole, report}
 use Rattle.files.specs.Ends.{whole_ends}
-use Rattle.files.specs.Renewed.{Renewed, SameSession, Standing, Together, as_it_is, behind, ending_same, found_at, hear, kept, new_hear_long, new_opening_long, no_shorter, nothing_added, one_by_one, opening, place_behind, read_at_rest, stays}
+use Rattle.files.specs.Renewed.{Renewed, SameSession, Standing, Together, as_it_is, behind, ending_same, found_at, hear, kept, new_hear_long}
+use Rattle.files.specs.Renewed.{new_opening_long, no_shorter, nothing_added, one_by_one, opening, place_behind, read_at_rest, stays}
 
 -- they are read alike
 found_alike : {l l' : List ℕ} → Renewed l l' → found_at l ≡ found_at l'
@@ -80,7 +81,8 @@ module _ (most : Numbers) (old new : List ℕ) (t : Tables) (strip : List ℕ) w
       standing = λ _. record { before = []; before' = []; rest = old; rest' = new; there = refl; there' = refl; at = refl; at' = refl; renewed = renewed };
     }
     together (suc k) = let pair = together k in
-        (one_by_one most old new t strip) (goes_on (of_old k).said) (goes_on (of_new k).said) (ap goes_on pair.same.said) (go_on (of_old k) (of_new k) pair) pair
+        (one_by_one most old new t strip) (goes_on (of_old k).said) (goes_on (of_new k).said) (ap goes_on pair.same.said)
+        (go_on (of_old k) (of_new k) pair) pair
 
     lines_same : (k : ℕ) → lines k most old (begun fresh t strip) ≡ lines k most new (begun fresh t strip)
     unfolding lines line_on play

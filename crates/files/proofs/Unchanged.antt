@@ -27,7 +27,8 @@ module _ (most : Numbers) (p : Player) (t : Tables) (strip : List ℕ) where
   found_unchanged next End h = absurd (omega arith)
   found_unchanged next Unknown h = record { tables = refl; strip_kept = refl; opened = refl; numbers = refl }
   found_unchanged next Cut h = record { tables = refl; strip_kept = refl; opened = refl; numbers = refl }
-  found_unchanged next (Made a) h = let o = called_in_place most p a t strip in by_answer most p t strip next o (in_place_leaves most p t strip a) o.answer refl h
+  found_unchanged next (Made a) h = let o = called_in_place most p a t strip in
+      by_answer most p t strip next o (in_place_leaves most p t strip a) o.answer refl h
 
   pub refused_turn_unchanged : (file : List ℕ) → 0 < (turn most file p t strip).number → Unchanged most p t strip (turn most file p t strip)
   unfolding turn

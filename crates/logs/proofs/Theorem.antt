@@ -31,7 +31,8 @@ module _ (q : Plan) (t : Tables) (strip : List ℕ) (accepted : (open_rack q t s
   module _ (c : ℕ) (there : c < N.n) where
     -- the cells of its log are the history's entries
     pub log_is : log_cells N now c ≡ log_of ((after N calls).rack.at c)
-    log_is = same_log N (now_sound q t strip accepted items one_run) there ∙ ap (λ (r : Rack). log_of (r.at c)) (demand q t strip accepted items one_run).same_rack
+    log_is = same_log N (now_sound q t strip accepted items one_run) there
+        ∙ ap (λ (r : Rack). log_of (r.at c)) (demand q t strip accepted items one_run).same_rack
 
     -- its entries are empty, or were handed in
     log_below : {bound : ℕ} → 0 < bound → Narrow bound calls → Below bound (log_of ((after N calls).rack.at c))
@@ -44,5 +45,6 @@ module _ (q : Plan) (t : Tables) (strip : List ℕ) (accepted : (open_rack q t s
     pub log_archived : Narrow (2 ^ 64) calls → Archived (log_cells N now c)
     log_archived narrow =
         let few = (now_sound q t strip accepted items one_run).within.slots_few in
-        archived (log_cells N now c) (rw (length_cells N (now_sound q t strip accepted items one_run) there) (omega (arith, closed_low N (now_sound q t strip accepted items one_run) there)))
+        archived (log_cells N now c) (rw (length_cells N (now_sound q t strip accepted items one_run) there)
+        (omega (arith, closed_low N (now_sound q t strip accepted items one_run) there)))
         (rw log_is (log_below (omega arith) narrow))

@@ -22,7 +22,8 @@ use Rattle.tables.specs.Calls.{stepped, ran_on}
 use Rattle.tables.specs.Addresses.{proposal_in}
 use Rattle.tables.specs.Sections.{agree_self, agree_more, elsewhere}
 use Rattle.promises.specs.Order.{step_refusals}
-use Rattle.promises.specs.Kept.{TouchesOnly, closing_touches, heard_kept, hold_touches, lent_few, marked_head, marked_holders, record_keeps, running_keeps, sends_keeps, slot_low, untouched}
+use Rattle.promises.specs.Kept.{TouchesOnly, closing_touches, heard_kept, hold_touches, lent_few, marked_head, marked_holders, record_keeps}
+use Rattle.promises.specs.Kept.{running_keeps, sends_keeps, slot_low, untouched}
 
 module _ (N : Numbers) (strip : List ℕ) where
   module _ (t : Tables) where
@@ -38,8 +39,10 @@ module _ (N : Numbers) (strip : List ℕ) where
     rule_touches : (c : ReplicaId) (a : Act) {e : Effect} → Unmet (lent_refusals N (record { who = c; act = a }) t) → c.0 < N.n
         → ByRule N (view N t) ((view N t).at c.0) a e → TouchesOnly N t (write N c.0 e t) a
     unfolding write
-    rule_touches c (Submit x) lent there (by_submit ne h l) = let (few, long) = lent_few N strip t c (Submit x) refl lent in hold_touches N strip t few long c.0 x l
-    rule_touches c (Relay x) lent there (by_relay ne l h) = let (few, long) = lent_few N strip t c (Relay x) refl lent in hold_touches N strip t few long c.0 x (inl l)
+    rule_touches c (Submit x) lent there (by_submit ne h l) = let (few, long) = lent_few N strip t c (Submit x) refl lent in
+        hold_touches N strip t few long c.0 x l
+    rule_touches c (Relay x) lent there (by_relay ne l h) = let (few, long) = lent_few N strip t c (Relay x) refl lent in
+        hold_touches N strip t few long c.0 x (inl l)
     rule_touches c Begin lent there (by_begin i l ne) =
         let low = slot_low N strip t c.0 there l in (
           (sends_keeps N strip t) c.0 there Proposals _ 0 _ _ (elsewhere os _ _ (inr (omega arith))),

@@ -3,9 +3,11 @@
 
 mod rounds;
 
-ghost use Rattle.std.specs.Prelude.{◌≡◌, ◌<◌, ◌≤◌, length};
+ghost use Rattle.std.specs.Prelude.{◌≡◌, ◌<◌, ◌≤◌, eqb, length};
 ghost use Rattle.model.specs.Scripts.{ended};
-ghost use Rattle.tables.specs.Layout.{mask_bits, record_end};
+ghost use Rattle.model.specs.declared.Round.TheVariants.{State};
+ghost use Rattle.model.specs.Rack.{round_number};
+ghost use Rattle.tables.specs.Layout.{mask_bits, record_at, record_end};
 ghost use Rattle.tables.specs.Calls.{ran_on};
 ghost use Rattle.tables.specs.Lent.{moments};
 
@@ -15,8 +17,10 @@ use rounds::{goes_on, run_state, run_vote, stopped};
 use steps::advances::advance_once;
 use tables::STATE;
 
+// Whether the record says so: the further advances start with its rule.
 fn in_state_round(who: usize, words: &[u16]) -> bool
     requires { (who < mask_bits) × (record_end who ≤ length words.now) }
+    ensures { result ≡ eqb (record_at words.now who).round (round_number State) }
 {
     let k = load(words, who);
     k.round == STATE

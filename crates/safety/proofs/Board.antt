@@ -8,7 +8,8 @@ use Rattle.safety.specs.Types.{Numbers, States, Votes, Unsent, Tag, Say, Unsure,
 use Rattle.model.specs.Rack.{is, Messages}
 use Rattle.model.proofs.Cases.{clash, is_one, unsure_apart}
 use Rattle.model.proofs.Counting.{meet}
-use Rattle.safety.specs.Board.{AllVotes, Decision, Ended, Grounded, MajorityTag, OtherSent, SomeSent, StateGrounds, carried, deciding_vote, flipped, opening, sent_grounds, state_of_vote, states_follow, tagged_state, votes_agree, votes_follow}
+use Rattle.safety.specs.Board.{AllVotes, Decision, Ended, Grounded, MajorityTag, OtherSent, SomeSent, StateGrounds, carried, deciding_vote, flipped}
+use Rattle.safety.specs.Board.{opening, sent_grounds, state_of_vote, states_follow, tagged_state, votes_agree, votes_follow}
 
 module _ (N : Numbers) where
   open N use {n, f}
@@ -23,7 +24,8 @@ module _ (N : Numbers) where
     after_decision s p {v} dec w x = go (sent_grounds N m grounded x)
       where
         go : StateGrounds N m s p w → w ≡ v
-        go (opening z t) = absurd (sent_grounds N m grounded (state_of_vote N m grounded (subst (λ (p : ℕ). SomeSent m Votes s p (Say v)) z (deciding_vote N m grounded dec))))
+        go (opening z t) = absurd (sent_grounds N m grounded
+            (state_of_vote N m grounded (subst (λ (p : ℕ). SomeSent m Votes s p (Say v)) z (deciding_vote N m grounded dec))))
         go (carried y) = votes_agree N m grounded y (deciding_vote N m grounded dec)
         go (flipped q) = let (d, a, b) = meet n (λ d. is Unsure (m Votes s p d)) (λ d. is (Say v) (m Votes s p d)) (omega arith) in
             absurd (unsure_apart v (is_one (m Votes s p d) a b))
@@ -32,7 +34,8 @@ module _ (N : Numbers) where
     module _ (fits : f + f + 1 ≤ n) where
       -- after a decision, every vote of every later phase says the same
       binding : (s p : ℕ) (v : Bool) → Decision N m s p v → (q : ℕ) → p < q → AllVotes N m grounded s q v
-      binding s p v dec = le_ind (λ q. AllVotes N m grounded s q v) (votes_follow N m grounded (after_decision s p dec)) (λ q l all. votes_follow N m grounded (states_follow N m grounded fits (omega arith) all))
+      binding s p v dec = le_ind (λ q. AllVotes N m grounded s q v) (votes_follow N m grounded (after_decision s p dec))
+          (λ q l all. votes_follow N m grounded (states_follow N m grounded fits (omega arith) all))
 
       -- all decisions of a slot are one
       pub one_decision : (s p q : ℕ) {v w : Bool} → Decision N m s p v → Decision N m s q w → v ≡ w

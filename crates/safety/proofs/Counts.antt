@@ -26,7 +26,8 @@ use Rattle.safety.proofs.Heeds.{decide_heeds}
 use Rattle.safety.specs.Comes.{Voting, ByRule, by_submit, by_relay, by_begin, by_hear, by_exchange, by_state, by_outcome_0}
 use Rattle.safety.specs.Comes.{by_outcome_1, by_seek, by_next_phase, by_find, by_notice, by_crash, Comes, refused, ruled}
 use Rattle.safety.proofs.Comes.{comes}
-use Rattle.safety.specs.Counts.{CountsKept, Tallied, aside, brings, elsewhere, fast_now, other_step, reaches_is, reaches_outcome, sends, sought, stood, unapplied}
+use Rattle.safety.specs.Counts.{CountsKept, Tallied, aside, brings, elsewhere, fast_now, other_step, reaches_is, reaches_outcome, sends, sought}
+use Rattle.safety.specs.Counts.{stood, unapplied}
 
 module _ {k : Replica} {own : ℕ → Bool} {reached : ℕ → ℕ → Bool} (old : Tallied k own reached) where
   -- the slot is closed, by its own outcome or not, where an outcome is reached with it or not
@@ -86,7 +87,8 @@ module _ (N : Numbers) (r : Rack) (c : ℕ) {own : ℕ → Bool} {reached : ℕ 
   module _ (a : Act) (so : Sort) (p : ℕ) (w : Word) (away : in_round Find ≡ false) where
     -- of another round than the vote round
     sends_before : in_round Vote ≡ false → Ends a (Send so p w)
-    sends_before h = sends N r c old a so p w away (and_first _ _ (and_none (eqb c c) _ (and_none (is_advance a) _ (and_none (not (is_sent (notice N was))) _ h))))
+    sends_before h = sends N r c old a so p w away
+        (and_first _ _ (and_none (eqb c c) _ (and_none (is_advance a) _ (and_none (not (is_sent (notice N was))) _ h))))
 
     -- of the vote round, without an outcome
     sends_on : outcome N was ≡ Undecided → Ends a (Send so p w)

@@ -37,9 +37,12 @@ module _ (N : Numbers) where
         goes_on : (a : Round) → (r.at c).round ≡ a → Phased N a (r.at c).phase → Goal
         unfolding advance_rule Unmet
         goes_on Idle was h = let (x, ne, said) = (steady d).bid busy in let el = (inv.replica d).proposals _ x said in
-            inl (begins N fits r inv steady c acts x d ne (rw (level d live) at el) (level d live) was (low N fits r inv steady few c d acts busy level least live))
-        goes_on Exchange was h = waits N fits r inv steady few c d acts busy level least live Proposals h was (λ q. inl (in_round N fits r inv steady c acts was (λ flip. ((le-ltb _ _ (rw h at q), tt), refl))))
-        goes_on State was h = waits N fits r inv steady few c d acts busy level least live States h was (λ q. inl (in_round N fits r inv steady c acts was (λ flip. ((le-ltb _ _ q, tt), refl))))
+            inl (begins N fits r inv steady c acts x d ne (rw (level d live) at el) (level d live) was
+            (low N fits r inv steady few c d acts busy level least live))
+        goes_on Exchange was h = waits N fits r inv steady few c d acts busy level least live Proposals h was
+            (λ q. inl (in_round N fits r inv steady c acts was (λ flip. ((le-ltb _ _ (rw h at q), tt), refl))))
+        goes_on State was h = waits N fits r inv steady few c d acts busy level least live States h was
+            (λ q. inl (in_round N fits r inv steady c acts was (λ flip. ((le-ltb _ _ q, tt), refl))))
         goes_on Vote was h = waits N fits r inv steady few c d acts busy level least live Votes h was (votes N fits r inv steady c acts was)
         goes_on Find was h = inl (finds N fits r inv steady c acts was)
 

@@ -11,4 +11,5 @@ module _ (entries : List ℕ) (fit : Below (2 ^ 64) entries) where
   entries_again =
       let same = length_entries (planes entries) ∙ count_again entries fit in
       ext_get_or 0 (entries_of (planes entries)) entries same
-      (λ j h. by_entry (planes entries) j (rw (sym (length_entries (planes entries))) h) ∙ rw (count_again entries fit) (entry_again entries fit j (rw same at h)))
+      (λ j h. by_entry (planes entries) j (rw (sym (length_entries (planes entries))) h)
+      ∙ rw (count_again entries fit) (entry_again entries fit j (rw same at h)))

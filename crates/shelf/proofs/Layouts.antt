@@ -35,11 +35,13 @@ module _ (stored : List ℕ) (fit : Below 256 stored) (even : length stored % en
   count = entry_count stored
 
   place_again : (i : ℕ) → i < entry_bytes * count → get_or (planes (entries_of stored)) i 0 ≡ get_or stored i 0
-  place_again i h = rw (div-add-mod' i count) at (byte_again stored fit even (i / count) (i % count) (row_inside entry_bytes count i h) (column_inside entry_bytes count i h))
+  place_again i h = rw (div-add-mod' i count) at
+      (byte_again stored fit even (i / count) (i % count) (row_inside entry_bytes count i h) (column_inside entry_bytes count i h))
 
   pub planes_again : planes (entries_of stored) ≡ stored
   planes_again =
-      ext_get_or 0 (planes (entries_of stored)) stored (length_again stored fit even) (λ i h. place_again i (rw (length_planes (entries_of stored), length_entries stored) at h))
+      ext_get_or 0 (planes (entries_of stored)) stored (length_again stored fit even)
+      (λ i h. place_again i (rw (length_planes (entries_of stored), length_entries stored) at h))
 
   -- and so of stored bytes that are read
   pub read_reordered : Permᴰ stored (log_bytes (entries_of stored))

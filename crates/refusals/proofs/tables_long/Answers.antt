@@ -8,7 +8,12 @@ returns-then-lengths-words_need c = rw (← c.words_need.ensures, lt-leb _ _ c.i
 
 pub returns-then-lengths-orders_need : goal.returns-then-lengths-orders_need
 unfolding long
-returns-then-lengths-orders_need c = rw (← c.words_need.ensures, le-leb _ _ c.if-lengths-words_need.false, ← c.orders_need.ensures, lt-leb _ _ c.if-lengths-orders_need.true)
+returns-then-lengths-orders_need c = rw (
+  ← c.words_need.ensures,
+  le-leb _ _ c.if-lengths-words_need.false,
+  ← c.orders_need.ensures,
+  lt-leb _ _ c.if-lengths-orders_need.true,
+)
 
 pub returns : goal.returns
 unfolding long

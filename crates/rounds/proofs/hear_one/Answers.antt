@@ -25,14 +25,16 @@ returns-then-d-who c = (omega arith, λ strip long. made_unless _ _ _ _ (and_non
 pub returns-then-not-is_sent : goal.returns-then-not-is_sent
 returns-then-not-is_sent c = (
   omega arith,
-  λ strip long. made_if _ _ (other _ _ _ c.has_bit.ensures (not-false _ c.if-not-has_bit.false-raw) c.if-d-who.false) (made_unsent _ _ _ _ _ _ _ _ _ c.requires.0 c.requires.1 c.requires.2 strip long
+  λ strip long. made_if _ _ (other _ _ _ c.has_bit.ensures (not-false _ c.if-not-has_bit.false-raw) c.if-d-who.false)
+      (made_unsent _ _ _ _ _ _ _ _ _ c.requires.0 c.requires.1 c.requires.2 strip long
       c.sent_word-word.ensures (told c.is_sent.ensures (not-true _ c.if-not-is_sent.true-raw))),
 )
 
 pub returns-then-counts_for : goal.returns-then-counts_for
 returns-then-counts_for c = (
   omega arith,
-  λ strip long. made_if _ _ (other _ _ _ c.has_bit.ensures (not-false _ c.if-not-has_bit.false-raw) c.if-d-who.false) (made_already _ _ _ _ _ _ _ _ _ c.requires.0 c.requires.1 c.requires.2 strip long
+  λ strip long. made_if _ _ (other _ _ _ c.has_bit.ensures (not-false _ c.if-not-has_bit.false-raw) c.if-d-who.false)
+      (made_already _ _ _ _ _ _ _ _ _ c.requires.0 c.requires.1 c.requires.2 strip long
       c.sent_word-word.ensures (told c.is_sent.ensures (not-false _ c.if-not-is_sent.false-raw))
       c.counts_for.ensures c.if-counts_for.true),
 )
@@ -40,7 +42,8 @@ returns-then-counts_for c = (
 pub returns : goal.returns
 returns c = (
   omega arith,
-  λ strip long. made_if _ _ (other _ _ _ c.has_bit.ensures (not-false _ c.if-not-has_bit.false-raw) c.if-d-who.false) (made_heard _ _ _ _ _ _ _ _ _ c.requires.0 c.requires.1 c.requires.2 strip long
+  λ strip long. made_if _ _ (other _ _ _ c.has_bit.ensures (not-false _ c.if-not-has_bit.false-raw) c.if-d-who.false)
+      (made_heard _ _ _ _ _ _ _ _ _ c.requires.0 c.requires.1 c.requires.2 strip long
       c.sent_word-word.ensures (told c.is_sent.ensures (not-false _ c.if-not-is_sent.false-raw))
       c.counts_for.ensures c.if-counts_for.false c.mark_heard.ensures),
 )

@@ -9,7 +9,8 @@ use Rattle.model.specs.declared.Sort.TheVariants.{Proposals}
 use Rattle.tallies.proofs.tag_tally.Given as goal
 
 abbrev pub invariant-loop-i : goal.invariant-loop-i
-invariant-loop-i l = (l.i ≤ l.numbers.n) × (l.total ≡ count l.i (λ d. is (Tag l.tag) (seen (heard_by l.numbers l.who l.slot 0 l.words l.orders l.ballots) Proposals 0 d)))
+invariant-loop-i l = (l.i ≤ l.numbers.n) ×
+    (l.total ≡ count l.i (λ d. is (Tag l.tag) (seen (heard_by l.numbers l.who l.slot 0 l.words l.orders l.ballots) Proposals 0 d)))
 
 abbrev pub decreases-loop-i : goal.decreases-loop-i
 decreases-loop-i l = l.numbers.n - l.i
