@@ -6,6 +6,9 @@ use mathlib.Core.Path.{◌≡◌, refl, sym, ◌∙◌, ap}
 use lib.Dec.{leb, ltb, eqb}
 use lib.ListN.{length}
 use borrow.Author.Tests.{leb-false, lt-leb, ltb-false, eqb-true, eq-eqb, not-false}
+use Rattle.std.specs.Prelude.{Result, Ok, Err, ⊤}
+use Rattle.std.specs.Result.{IsErrAnd}
+use Rattle.std.proofs.lemmas.Result.{err_from_is_err_and}
 use Rattle.model.specs.declared.Numbers.{Numbers}
 use Rattle.model.specs.declared.ReplicaId.{ReplicaId}
 use Rattle.model.specs.declared.Refusal.{Refusal}
@@ -15,44 +18,40 @@ use Rattle.model.specs.declared.Effect.TheVariants.{Refuse}
 use Rattle.model.specs.declared.Act.{Act}
 use Rattle.model.specs.declared.Act.TheVariants.{Submit, Relay, Begin, Hear, Advance, Crash}
 use Rattle.tables.specs.declared.Record.{Record}
-use Rattle.tables.specs.declared.Lengths.{Lengths}
 use Rattle.model.specs.Tests.{if}
 use Rattle.model.specs.Limits.{limited}
 use Rattle.model.specs.Rack.{Replica}
-use Rattle.model.specs.TurnedAway.{Ground, unless, settle}
+use Rattle.model.specs.TurnedAway.{Ground, unless, settle, effect_in}
 use Rattle.model.specs.Rules.{is_crash, own_rule, strip_short}
-use Rattle.model.proofs.Cases.{clash, never, or_false, or_none, Unmet, unless_map, none_met}
+use Rattle.model.proofs.Cases.{clash, or_false, or_none, Unmet, unless_map, none_met}
 use Rattle.tables.specs.Layout.{Tables, known_in, record_at}
 use Rattle.tables.specs.View.{replica_at, view}
 use Rattle.tables.specs.Checks.{lengths, long, any_spoiled}
 use Rattle.tables.specs.Sound.{sound, sound_unmet, own_view}
 use Rattle.tables.specs.Calls.{judge}
-use Rattle.refusals.specs.declared.Vetted.{Vetted}
-use Rattle.refusals.specs.declared.Vetted.TheVariants.{Refused, Passed}
-use Rattle.refusals.specs.Vet.{run_spoiled, first_asked, vetted}
-use Rattle.acts.specs.Admitted.{other, first_vetted, Admitted}
+use Rattle.refusals.specs.Vet.{first_asked, first_vetted}
+use Rattle.acts.specs.Admitted.{other, Admitted}
+
+-- what a `?` hands on
+pub turned_away : {T : Type 0} {r : Result T Refusal} {why : Refusal} → IsErrAnd r (λ y. y ≡ why) → r ≡ Err why
+turned_away {r = r} away = let p = err_from_is_err_and r away in p.1 ∙ ap Err p.2
 
 -- ---- one list of refusals, read as what is vetted and as an effect
 
-abbrev behind : Effect → Vetted → Effect
-behind e (Refused why) = Refuse why
-behind e Passed = e
+-- what is vetted
+abbrev passing : List Ground → Result ⊤ Refusal
+passing gs = unless Err gs (Ok tt)
 
 -- where it passed, no refusal was met
-pub passed_unmet : (gs : List Ground) → unless Refused gs Passed ≡ Passed → Unmet gs
+pub passed_unmet : (gs : List Ground) → passing gs ≡ Ok tt → Unmet gs
 unfolding unless Unmet if
 passed_unmet [] e = tt
 passed_unmet (g ∷ gs) e = go g.met refl e (passed_unmet gs)
   where
-    go : (b : Bool) → g.met ≡ b → if b (Refused g.why) (unless Refused gs Passed) ≡ Passed
-        → (unless Refused gs Passed ≡ Passed → Unmet gs) → (g.met ≡ false) × Unmet gs
-    go true q e below = absurd (never cc)
+    go : (b : Bool) → g.met ≡ b → if b (Err g.why) (passing gs) ≡ Ok tt
+        → (passing gs ≡ Ok tt → Unmet gs) → (g.met ≡ false) × Unmet gs
+    go true q e below = cc
     go false q e below = (q, below e)
-
--- ---- what vetting asks: the measured length of the words
-
-pub words_measured : {l m : Lengths} → l ≡ m → l.words ≡ m.words
-words_measured e = ap (λ (l : Lengths). l.words) e
 
 -- ---- `judge` behind what is asked first
 
@@ -105,59 +104,37 @@ module _ (N : Numbers) (strip : List ℕ) (t : Tables) (c : ReplicaId) where
   judge_behind Advance e = ap checked (admits (ruled Advance) false _ (alone (leb n c.0)))
   judge_behind Crash e = clash (sym e)
 
-  -- ---- what the code has vetted
+  -- ---- behind what the code has vetted
 
-  module _ (d : ℕ) where
-    pub spoiled_first : {b : Bool} → b ≡ run_spoiled N t.words → b ≡ true → Refused SpoiledRecord ≡ first_vetted N c.0 d (length strip) t
-    unfolding first_vetted unless if
-    spoiled_first is h = rw (sym is ∙ h)
-
-    pub vetted_next : {b : Bool} {v : Vetted} {l : Lengths} → b ≡ run_spoiled N t.words → b ≡ false → l ≡ lengths t
-        → v ≡ vetted N c.0 d l (length strip) t.words → v ≡ first_vetted N c.0 d (length strip) t
-    unfolding first_vetted vetted unless if
-    vetted_next is h measured q = q ∙ (λ i. vetted N c.0 d (measured i) (length strip) t.words) ∙ rw (sym is ∙ h)
-
-    pub admitted : {v : Vetted} → v ≡ first_vetted N c.0 d (length strip) t → v ≡ Passed → Admitted N c.0 d (length strip) t
-    unfolding first_vetted Unmet
-    admitted asked e =
-        let (spoiled, (short, (few, (nobody, (dark, _))))) = passed_unmet (first_asked N c.0 d (lengths t) (length strip) t.words)
-        (sym asked ∙ e) in
-        let (there, named) = or_false (leb n c.0) _ nobody in
-        record {
-          fine = sound N t (spoiled, (short, tt));
-          coins = ltb-false _ _ few;
-          who = leb-false _ _ there;
-          named = leb-false _ _ named;
-          running = eqb-true _ _ (not-false _ dark);
-        }
-
-  module _ (a : Act) (alive : is_crash a ≡ false) {v : Vetted} (asked : v ≡ first_vetted N c.0 (other c.0 a) (length strip) t) where
-    judged : behind (ruled a here) v ≡ judge N strip (record { who = c; act = a }) t
+  module _ (a : Act) (alive : is_crash a ≡ false) where
+    judged : effect_in (λ _. ruled a here) (first_vetted N c.0 (other c.0 a) (length strip) t) ≡ judge N strip (record { who = c; act = a }) t
     unfolding first_vetted
-    judged = ap (behind (ruled a here)) asked ∙ unless_map (behind (ruled a here)) Refused Passed _ ∙ sym (judge_behind a alive)
+    judged = unless_map (effect_in (λ _. ruled a here)) Err (Ok tt) _ ∙ sym (judge_behind a alive)
 
-    pub judge_stops : {why : Refusal} → v ≡ Refused why → Refuse why ≡ judge N strip (record { who = c; act = a }) t
-    judge_stops e = ap (behind (ruled a here)) (sym e) ∙ judged
+    pub judge_stops : {why : Refusal} → Err why ≡ first_vetted N c.0 (other c.0 a) (length strip) t → Refuse why ≡ judge N strip (record { who = c; act = a }) t
+    judge_stops e = ap (effect_in (λ _. ruled a here)) e ∙ judged
 
-    pub judge_rules : {r : Effect} → v ≡ Passed → r ≡ ruled a here → r ≡ judge N strip (record { who = c; act = a }) t
-    judge_rules e q = q ∙ ap (behind (ruled a here)) (sym e) ∙ judged
+    pub judge_ends : {T : Type 0} (good : T → Effect) (r : Result T Refusal) {why : Refusal} → IsErrAnd r (λ y. y ≡ why)
+        → Err why ≡ first_vetted N c.0 (other c.0 a) (length strip) t → effect_in good r ≡ judge N strip (record { who = c; act = a }) t
+    judge_ends good r away e = ap (effect_in good) (turned_away away) ∙ judge_stops e
 
-  -- the same of what the code has asked one after the other
-  pub stops_spoiled : (a : Act) → is_crash a ≡ false → {b : Bool} → b ≡ run_spoiled N t.words → b ≡ true
-      → Refuse SpoiledRecord ≡ judge N strip (record { who = c; act = a }) t
-  stops_spoiled a alive is h = judge_stops a alive (spoiled_first (other c.0 a) is h) refl
+    pub judge_rules : {r : Effect} → Ok tt ≡ first_vetted N c.0 (other c.0 a) (length strip) t → r ≡ ruled a here
+        → r ≡ judge N strip (record { who = c; act = a }) t
+    judge_rules e q = q ∙ ap (effect_in (λ _. ruled a here)) e ∙ judged
 
-  module _ (a : Act) (alive : is_crash a ≡ false) {b : Bool} {v : Vetted} {l : Lengths} (is : b ≡ run_spoiled N t.words) (h : b ≡ false)
-      (measured : l ≡ lengths t) (q : v ≡ vetted N c.0 (other c.0 a) l (length strip) t.words) where
-    pub stops_vetted : {why : Refusal} → v ≡ Refused why → Refuse why ≡ judge N strip (record { who = c; act = a }) t
-    stops_vetted e = judge_stops a alive (vetted_next (other c.0 a) is h measured q) e
-
-    pub rules_vetted : {r : Effect} → v ≡ Passed → r ≡ ruled a here → r ≡ judge N strip (record { who = c; act = a }) t
-    rules_vetted e = judge_rules a alive (vetted_next (other c.0 a) is h measured q) e
-
-  pub admits_vetted : (d : ℕ) {b : Bool} {v : Vetted} {l : Lengths} → b ≡ run_spoiled N t.words → b ≡ false → l ≡ lengths t
-      → v ≡ vetted N c.0 d l (length strip) t.words → v ≡ Passed → Admitted N c.0 d (length strip) t
-  admits_vetted d is h measured q e = admitted d (vetted_next d is h measured q) e
+-- where the code's first refusals passed
+pub admitted : {N : Numbers} {c d strip : ℕ} {t : Tables} → Ok tt ≡ first_vetted N c d strip t → Admitted N c d strip t
+unfolding first_vetted Unmet
+admitted {N} {c} {d} {strip} {t} e =
+    let (spoiled, (short, (few, (nobody, (dark, _))))) = passed_unmet (first_asked N c d (lengths t) strip t.words) (sym e) in
+    let (there, named) = or_false (leb N.n c) _ nobody in
+    record {
+      fine = sound N t (spoiled, (short, tt));
+      coins = ltb-false _ _ few;
+      who = leb-false _ _ there;
+      named = leb-false _ _ named;
+      running = eqb-true _ _ (not-false _ dark);
+    }
 
 -- ---- a step where no first refusal is met
 

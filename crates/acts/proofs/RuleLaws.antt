@@ -34,7 +34,7 @@ module _ {N : Numbers} {c d st : ℕ} {t : Tables} (l : Admitted N c d st t) whe
   acting = let f = l.fine in
       record { who = l.who; room = record { bounds = f.within; known = f.known; words = f.long.words; orders = f.long.orders } }
 
-  pub reach : Reach N t.words t.orders t.ballots
+  pub reach : Reach N t
   reach = let f = l.fine in record { bounds = f.within; words = f.long.words; orders = f.long.orders; ballots = f.long.ballots }
 
   module _ {k : Record} (loaded : k ≡ record_at t.words c) where
@@ -49,7 +49,7 @@ module _ {N : Numbers} {c d st : ℕ} {t : Tables} (l : Admitted N c d st t) whe
   pub record_asks : (c < mask_bits) × (record_end c ≤ length t.words)
   record_asks = let few = l.fine.within.few in let here = l.who in (omega arith, record_there N l.fine l.who)
 
-  pub hear_asks : (c < N.n) × (d < N.n) × Reach N t.words t.orders t.ballots
+  pub hear_asks : (c < N.n) × (d < N.n) × Reach N t
   hear_asks = (l.who, l.named, reach)
 
 -- ---- what the rules come to

@@ -3,25 +3,40 @@ use Prim.Native.Nat.{ℕ}
 use mathlib.Core.Bool.{Bool, true, false}
 use mathlib.Core.List.{List}
 use mathlib.Core.Path.{◌≡◌, refl, sym, ◌∙◌, ap, ap₂, subst}
+use Rattle.std.specs.Prelude.{Result}
+use Rattle.std.specs.Result.{IsErrAnd}
 use Rattle.model.specs.declared.Numbers.{Numbers}
+use Rattle.model.specs.declared.Refusal.{Refusal}
+use Rattle.model.specs.Answers.{answer_in}
 use Rattle.model.specs.declared.Effect.{Effect}
 use Rattle.model.specs.declared.Effect.TheVariants.{Refuse, Hold, Send, Close, Seek, Receive, Halt}
 use Rattle.model.specs.declared.Act.{Act}
 use Rattle.model.specs.declared.Step.{Step}
 use Rattle.model.specs.declared.Answer.{Answer}
 use Rattle.model.specs.declared.Answer.TheVariants.{Done}
-use Rattle.model.specs.Rules.{rule}
 use Rattle.model.specs.Scripts.{Played, play, accepted, answered, ended}
-use Rattle.model.proofs.Cases.{clash, unless_ind}
+use Rattle.model.proofs.Cases.{clash}
 use Rattle.tables.specs.Layout.{Tables}
-use Rattle.tables.specs.View.{view}
 use Rattle.tables.specs.Write.{write, unstored}
 use Rattle.tables.specs.Calls.{judge, performed, stepped}
 use Rattle.effects.specs.Doable.{Doable}
 use Rattle.acts.proofs.DoableLaws.{judged_doable}
+use Rattle.acts.proofs.GateLaws.{turned_away}
+
+-- an effect that is no refusal is accepted
+pub not_refused : (e : Effect) → ((why : Refusal) → e ≡ Refuse why → ⊥) → accepted e ≡ true
+not_refused = elim [
+  | Refuse why ↦ λ none. absurd (none why refl)
+  | Hold x ↦ λ _. refl
+  | Send so p w ↦ λ _. refl
+  | Close x own ↦ λ _. refl
+  | Seek ↦ λ _. refl
+  | Receive so s p d w ↦ λ _. refl
+  | Halt ↦ λ _. refl
+]
 
 -- an accepted effect answers that it is done
-all_done : (e : Effect) → accepted e ≡ true → Done ≡ answered Done e
+pub all_done : (e : Effect) → accepted e ≡ true → Done ≡ answered Done e
 all_done = elim [
   | Refuse why ↦ λ h. clash h
   | Hold x ↦ λ h. refl
@@ -51,14 +66,14 @@ module _ (N : Numbers) (strip : List ℕ) (a : Step) (t : Tables) {e : Effect} (
     pub stays : {r : Answer} → b ≡ false → r ≡ answered Done e → ended r t ≡ stepped N strip a t
     stays h q = takes (performs (unstored N a.who.0 t e (sym asked ∙ h))) q
 
-    -- it is accepted, and comes to its rule's effect
-    pub comes : b ≡ true → e ≡ (rule N strip a (view N t)).effect
-    unfolding judge
-    comes h = judged ∙ unless_ind (λ (x : Effect). accepted x ≡ true → x ≡ (rule N strip a (view N t)).effect) _ (λ why g. clash g) (λ _ _. refl)
-        (ap accepted (sym judged) ∙ sym asked ∙ h)
-
+    -- it is accepted: what was judged is stored
     pub stores : {t' : Tables} → b ≡ true → t' ≡ write N a.who.0 e t → ended Done t' ≡ stepped N strip a t
     stores h q = takes (performs q) (all_done e (sym asked ∙ h))
+
+-- a step that the code turns away
+pub stops : (N : Numbers) (strip : List ℕ) (a : Step) (t : Tables) {T : Type 0} (good : T → Answer) (r : Result T Refusal) {why : Refusal}
+    → IsErrAnd r (λ y. y ≡ why) → Refuse why ≡ judge N strip a t → ended (answer_in good r) t ≡ stepped N strip a t
+stops N strip a t good r away judged = stays N strip a t judged refl refl (ap (answer_in good) (turned_away away))
 
 -- the step that the code has matched
 pub taken : (N : Numbers) (strip : List ℕ) (t : Tables) (a : Step) {x : Act} {p : Played Tables} → a.act ≡ x

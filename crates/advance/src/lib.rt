@@ -1,12 +1,11 @@
 // What an advance comes to, round by round. Inner code: no calls of the library.
-#![tactic(auto)]
+#![tactic(auto, using(crate::proofs::RuleLaws::finds), unfolding(model::specs::Rules::phase_in, model::specs::TurnedAway::unless))]
 
 pub mod notices;
 
-ghost use Rattle.std.specs.Prelude.{◌≡◌, true, false, [], ◌∷◌, ◌<◌, ◌≤◌, ◌+◌, ◌*◌, suc, leb, ltb, length};
+ghost use Rattle.std.specs.Prelude.{◌≡◌, true, false, [], ◌∷◌, ◌<◌, ◌≤◌, ◌*◌, suc, leb, ltb, length, Some, None};
 ghost use Rattle.model.specs.declared.Sort.TheVariants.{States, Votes};
 ghost use Rattle.model.specs.declared.Word.TheVariants.{Say, Unsure};
-ghost use Rattle.model.specs.declared.Outcome.TheVariants.{Undecided, Decided};
 ghost use Rattle.model.specs.declared.Refusal.TheVariants.{PhasesUsedUp};
 ghost use Rattle.model.specs.declared.Effect.TheVariants.{Send};
 ghost use Rattle.model.specs.Coins.{coin, strip_cell};
@@ -14,13 +13,15 @@ ghost use Rattle.model.specs.TurnedAway.{◌when◌, ◌⊢◌, settle};
 ghost use Rattle.model.specs.Rules.{quorum, majority, exchange_rule, state_rule, conclude, vote_rule, find_rule, advance_rule};
 ghost use Rattle.tables.specs.Bounds.{Bounds};
 ghost use Rattle.tables.specs.Checks.{misplaced};
+ghost use Rattle.tables.specs.Lent.{held};
 ghost use Rattle.messages.specs.Reach.{Reach};
 ghost use Rattle.tallies.specs.Heard.{InSlot, InPhase, heard_by};
 ghost use Rattle.advance.specs.Picked.{picked};
 
 use coin::coin_of;
-use model::{Effect, Numbers, Outcome, PhaseIndex, Refusal, Round, SlotIndex, Sort, Word};
-use tallies::{count_heard, majority_tag};
+use model::{Effect, Numbers, PhaseIndex, Refusal, Round, SlotIndex, Sort, Word};
+use tables::Memory;
+use tallies::{Count, count_heard, majority_tag};
 
 // 14: "below quota"
 fn below_quorum(numbers: Numbers, heard: usize) -> bool
@@ -30,165 +31,92 @@ fn below_quorum(numbers: Numbers, heard: usize) -> bool
     heard < numbers.n - numbers.f
 }
 
-fn exchange_rule(
-    numbers: Numbers,
-    who: usize,
-    slot: usize,
-    phase: usize,
-    words: &[u16],
-    orders: &[u64],
-    ballots: &[u8],
-) -> Effect
-    requires { InSlot numbers who slot words.now orders.now ballots.now }
-    ensures { let k = heard_by numbers who slot phase words.now orders.now ballots.now in
+// The value that was heard so often, if one was: "0 is looked for first".
+fn value_of(bound: usize, count: Count) -> Option<bool>
+    ensures { result ≡ picked bound count.zeros count.ones (Some false) (Some true) None }
+{
+    if bound <= count.zeros {
+        Some(false)
+    } else if bound <= count.ones {
+        Some(true)
+    } else {
+        None
+    }
+}
+
+fn exchange_rule(numbers: Numbers, who: usize, slot: usize, phase: usize, memory: &Memory) -> Effect
+    requires { InSlot numbers who slot (held memory.now) }
+    ensures { let k = heard_by numbers who slot phase (held memory.now) in
         result ≡ settle (exchange_rule numbers k) }
 {
-    let count = count_heard(
-        numbers,
-        who,
-        Sort::Proposals,
-        slot,
-        0,
-        words,
-        orders,
-        ballots,
-    );
+    let count = count_heard(numbers, who, Sort::Proposals, slot, 0, memory);
     if below_quorum(numbers, count.all) {
         return Effect::Refuse(Refusal::TooFewHeard);
     }
-    let tag = majority_tag(numbers, who, slot, words, orders, ballots);
     Effect::Send {
         sort: Sort::States,
         phase: 1,
-        word: Word::Say(tag != 0),
+        word: Word::Say(majority_tag(numbers, who, slot, memory) != 0),
     }
 }
 
-fn vote_of(numbers: Numbers, zeros: usize, ones: usize) -> Word
-    ensures { result ≡ picked (majority numbers) zeros ones (Say false) (Say true) Unsure }
+fn vote_of(numbers: Numbers, count: Count) -> Word
+    ensures { result ≡ picked (majority numbers) count.zeros count.ones (Say false) (Say true) Unsure }
 {
-    let majority = numbers.n / 2 + 1;
-    if majority <= zeros {
-        return Word::Say(false);
+    match value_of(numbers.n / 2 + 1, count) {
+        Some(v) => Word::Say(v),
+        None => Word::Unsure,
     }
-    if majority <= ones {
-        return Word::Say(true);
-    }
-    Word::Unsure
 }
 
-fn state_rule(
-    numbers: Numbers,
-    who: usize,
-    slot: usize,
-    phase: usize,
-    words: &[u16],
-    orders: &[u64],
-    ballots: &[u8],
-) -> Effect
-    requires { InPhase numbers who States slot phase words.now orders.now ballots.now }
-    ensures { let k = heard_by numbers who slot phase words.now orders.now ballots.now in
+fn state_rule(numbers: Numbers, who: usize, slot: usize, phase: usize, memory: &Memory) -> Effect
+    requires { InPhase numbers who States slot phase (held memory.now) }
+    ensures { let k = heard_by numbers who slot phase (held memory.now) in
         result ≡ settle (state_rule numbers k) }
 {
-    let count = count_heard(
-        numbers,
-        who,
-        Sort::States,
-        slot,
-        phase,
-        words,
-        orders,
-        ballots,
-    );
+    let count = count_heard(numbers, who, Sort::States, slot, phase, memory);
     if below_quorum(numbers, count.all) {
         return Effect::Refuse(Refusal::TooFewHeard);
     }
     Effect::Send {
         sort: Sort::Votes,
         phase,
-        word: vote_of(numbers, count.zeros, count.ones),
+        word: vote_of(numbers, count),
     }
-}
-
-fn outcome_of(numbers: Numbers, zeros: usize, ones: usize) -> Outcome
-    requires { Bounds numbers }
-    ensures { result ≡ picked (numbers.f + 1) zeros ones (Decided false) (Decided true) Undecided }
-{
-    let enough = numbers.f + 1;
-    if enough <= zeros {
-        return Outcome::Decided(false);
-    }
-    if enough <= ones {
-        return Outcome::Decided(true);
-    }
-    Outcome::Undecided
-}
-
-// The coin is looked up only where neither a 0 nor a 1 was heard.
-fn next_state(
-    numbers: Numbers,
-    slot: usize,
-    phase: usize,
-    zeros: usize,
-    ones: usize,
-    strip: &[u8],
-) -> bool
-    requires { (1 ≤ phase) × (strip_cell numbers.phases slot phase < length strip.now) }
-    ensures { result ≡ picked 1 zeros ones false true (coin numbers.phases strip.now slot phase) }
-{
-    if 1 <= zeros {
-        return false;
-    }
-    if 1 <= ones {
-        return true;
-    }
-    coin_of(numbers.phases, strip, SlotIndex(slot), PhaseIndex(phase))
 }
 
 // Outcome 1. The coin has no part in it.
-fn close_or_seek(
-    numbers: Numbers,
-    who: usize,
-    slot: usize,
-    phase: usize,
-    words: &[u16],
-    orders: &[u64],
-    ballots: &[u8],
-) -> Effect
-    requires { InSlot numbers who slot words.now orders.now ballots.now }
-    ensures { let k = heard_by numbers who slot phase words.now orders.now ballots.now in
-        result ≡ conclude numbers false k (Decided true) }
+#[tactic(auto, using(crate::proofs::RuleLaws::finds), unfolding(model::specs::Rules::phase_in, model::specs::Rules::conclude))]
+fn close_or_seek(numbers: Numbers, who: usize, slot: usize, phase: usize, memory: &Memory) -> Effect
+    requires { InSlot numbers who slot (held memory.now) }
+    ensures { let k = heard_by numbers who slot phase (held memory.now) in
+        result ≡ conclude numbers false k (Some true) }
 {
-    let tag = majority_tag(numbers, who, slot, words, orders, ballots);
-    if tag == 0 {
-        return Effect::Seek;
-    }
-    Effect::Close {
-        entry: tag,
-        own: true,
+    match majority_tag(numbers, who, slot, memory) {
+        0 => Effect::Seek,
+        entry => Effect::Close { entry, own: true },
     }
 }
 
-// No outcome: 15, or the state for the next phase.
-fn go_on(
-    numbers: Numbers,
-    slot: usize,
-    phase: usize,
-    zeros: usize,
-    ones: usize,
-    strip: &[u8],
-) -> Effect
+// No outcome: 15, or the state for the next phase. The coin is looked up only where neither a 0 nor a 1 was heard.
+fn go_on(numbers: Numbers, slot: usize, phase: usize, count: Count, strip: &[u8]) -> Effect
     requires { (Bounds numbers) × (1 ≤ phase) × (strip_cell numbers.phases slot phase < length strip.now) }
-    ensures { let state = picked 1 zeros ones false true (coin numbers.phases strip.now slot phase) in
+    ensures { let state = picked 1 count.zeros count.ones false true (coin numbers.phases strip.now slot phase) in
         result ≡ settle (PhasesUsedUp when leb numbers.phases phase ∷ [] ⊢ Send States (suc phase) (Say state)) }
 {
     if numbers.phases <= phase {
         return Effect::Refuse(Refusal::PhasesUsedUp);
     }
+    let state = value_of(1, count).unwrap_or_else(|| coin_of(
+        numbers.phases,
+        strip,
+        SlotIndex(slot),
+        PhaseIndex(phase),
+    ));
     Effect::Send {
         sort: Sort::States,
         phase: phase + 1,
-        word: Word::Say(next_state(numbers, slot, phase, zeros, ones, strip)),
+        word: Word::Say(state),
     }
 }
 
@@ -197,88 +125,59 @@ fn vote_rule(
     who: usize,
     slot: usize,
     phase: usize,
-    words: &[u16],
-    orders: &[u64],
-    ballots: &[u8],
+    memory: &Memory,
     strip: &[u8],
 ) -> Effect
-    requires { (InPhase numbers who Votes slot phase words.now orders.now ballots.now)
+    requires { (InPhase numbers who Votes slot phase (held memory.now))
         × (1 ≤ phase) × (strip_cell numbers.phases slot phase < length strip.now) }
-    ensures { let k = heard_by numbers who slot phase words.now orders.now ballots.now in
+    ensures { let k = heard_by numbers who slot phase (held memory.now) in
         result ≡ settle (vote_rule numbers (coin numbers.phases strip.now slot phase) k) }
 {
-    let count = count_heard(
-        numbers,
-        who,
-        Sort::Votes,
-        slot,
-        phase,
-        words,
-        orders,
-        ballots,
-    );
+    let count = count_heard(numbers, who, Sort::Votes, slot, phase, memory);
     if below_quorum(numbers, count.all) {
         return Effect::Refuse(Refusal::TooFewHeard);
     }
-    let o = outcome_of(numbers, count.zeros, count.ones);
-    match o {
-        Outcome::Decided(v) => {
-            if v {
-                return close_or_seek(numbers, who, slot, phase, words, orders, ballots);
-            }
-            Effect::Close {
-                entry: 0,
-                own: true,
-            }
-        }
-        Outcome::Undecided => go_on(numbers, slot, phase, count.zeros, count.ones, strip),
+    match value_of(numbers.f + 1, count) {
+        Some(true) => close_or_seek(numbers, who, slot, phase, memory),
+        Some(false) => Effect::Close {
+            entry: 0,
+            own: true,
+        },
+        None => go_on(numbers, slot, phase, count, strip),
     }
 }
 
-fn find_rule(
-    numbers: Numbers,
-    who: usize,
-    slot: usize,
-    phase: usize,
-    words: &[u16],
-    orders: &[u64],
-    ballots: &[u8],
-) -> Effect
-    requires { InSlot numbers who slot words.now orders.now ballots.now }
-    ensures { let k = heard_by numbers who slot phase words.now orders.now ballots.now in
+fn find_rule(numbers: Numbers, who: usize, slot: usize, phase: usize, memory: &Memory) -> Effect
+    requires { InSlot numbers who slot (held memory.now) }
+    ensures { let k = heard_by numbers who slot phase (held memory.now) in
         result ≡ settle (find_rule numbers k) }
 {
-    let tag = majority_tag(numbers, who, slot, words, orders, ballots);
-    if tag == 0 {
-        return Effect::Refuse(Refusal::TooFewHeard);
-    }
-    Effect::Close {
-        entry: tag,
-        own: true,
+    match majority_tag(numbers, who, slot, memory) {
+        0 => Effect::Refuse(Refusal::TooFewHeard),
+        entry => Effect::Close { entry, own: true },
     }
 }
 
+#[tactic(auto, using(model::proofs::Branches::picks), unfolding(model::specs::Rules::advance_rule, model::specs::TurnedAway::unless))]
 fn advance_rule(
     numbers: Numbers,
     who: usize,
     round: Round,
     slot: usize,
     phase: usize,
-    words: &[u16],
-    orders: &[u64],
-    ballots: &[u8],
+    memory: &Memory,
     strip: &[u8],
 ) -> Effect
-    requires { (who < numbers.n) × (misplaced numbers round slot phase ≡ false) × (Reach numbers words.now orders.now ballots.now)
+    requires { (who < numbers.n) × (misplaced numbers round slot phase ≡ false) × (Reach numbers (held memory.now))
         × (numbers.slots * numbers.phases ≤ length strip.now) }
-    ensures { let k = heard_by numbers who slot phase words.now orders.now ballots.now in
+    ensures { let k = heard_by numbers who slot phase (held memory.now) in
         result ≡ settle (advance_rule numbers (coin numbers.phases strip.now slot phase) k round) }
 {
     match round {
         Round::Idle => Effect::Refuse(Refusal::NotBegun),
-        Round::Exchange => exchange_rule(numbers, who, slot, phase, words, orders, ballots),
-        Round::State => state_rule(numbers, who, slot, phase, words, orders, ballots),
-        Round::Vote => vote_rule(numbers, who, slot, phase, words, orders, ballots, strip),
-        Round::Find => find_rule(numbers, who, slot, phase, words, orders, ballots),
+        Round::Exchange => exchange_rule(numbers, who, slot, phase, memory),
+        Round::State => state_rule(numbers, who, slot, phase, memory),
+        Round::Vote => vote_rule(numbers, who, slot, phase, memory, strip),
+        Round::Find => find_rule(numbers, who, slot, phase, memory),
     }
 }

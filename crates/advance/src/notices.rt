@@ -1,10 +1,13 @@
 // "A controller in that slot, or idle before it, that has heard such a notice closes with that entry at its next advance, ahead
 // of every other rule". Inner code: no calls of the library.
+#![tactic(auto, using(model::proofs::Branches::picks), unfolding(model::specs::Rules::phase_in, model::specs::Rules::heed, model::specs::TurnedAway::unless))]
+
 ghost use Rattle.std.specs.Prelude.{◌≡◌, false, ◌<◌, ◌≤◌, ◌*◌, length};
 ghost use Rattle.model.specs.Coins.{coin};
 ghost use Rattle.model.specs.TurnedAway.{settle};
 ghost use Rattle.model.specs.Rules.{notice, advance_rule, heed as heeding};
 ghost use Rattle.tables.specs.Checks.{misplaced};
+ghost use Rattle.tables.specs.Lent.{held};
 ghost use Rattle.messages.specs.Reach.{Reach};
 ghost use Rattle.tallies.specs.Heard.{InSlot, heard_by};
 ghost use Rattle.advance.specs.Noticed.{noticed as noticed_by};
@@ -13,58 +16,39 @@ use crate::advance_rule;
 use layout::has_row;
 use messages::words::heard_word;
 use model::{Effect, Numbers, Round, Sort, Word};
+use tables::{Address, Memory};
 use values::words::{is_sent, tag_of};
 
 // "of several notices the lowest sender's counts"
-fn first_notice(
-    numbers: Numbers,
-    who: usize,
-    slot: usize,
-    words: &[u16],
-    orders: &[u64],
-    ballots: &[u8],
-) -> Word
-    requires { InSlot numbers who slot words.now orders.now ballots.now }
-    ensures { result ≡ notice numbers (heard_by numbers who slot 0 words.now orders.now ballots.now) }
+fn first_notice(numbers: Numbers, who: usize, slot: usize, memory: &Memory) -> Word
+    requires { InSlot numbers who slot (held memory.now) }
+    ensures { result ≡ notice numbers (heard_by numbers who slot 0 (held memory.now)) }
 {
-    let n = numbers.n;
-    let mut i = 0;
-    while i < n {
-        let word = heard_word(
-            numbers,
-            who,
-            Sort::Notices,
+    for sender in 0..numbers.n {
+        let at = Address {
+            sort: Sort::Notices,
             slot,
-            0,
-            i,
-            words,
-            orders,
-            ballots,
-        );
+            phase: 0,
+            sender,
+        };
+        let word = heard_word(numbers, who, at, memory);
         if is_sent(word) {
             return word;
         }
-        i += 1;
     }
     Word::Unsent
 }
 
 // An idle replica that has closed all slots has no current one, and no row for its notices.
-fn noticed(
-    numbers: Numbers,
-    who: usize,
-    slot: usize,
-    words: &[u16],
-    orders: &[u64],
-    ballots: &[u8],
-) -> Word
-    requires { (who < numbers.n) × (Reach numbers words.now orders.now ballots.now) }
-    ensures { result ≡ noticed_by numbers who slot words.now orders.now ballots.now }
+fn noticed(numbers: Numbers, who: usize, slot: usize, memory: &Memory) -> Word
+    requires { (who < numbers.n) × (Reach numbers (held memory.now)) }
+    ensures { result ≡ noticed_by numbers who slot (held memory.now) }
 {
-    if !has_row(numbers, slot) {
-        return Word::Unsent;
+    if has_row(numbers, slot) {
+        first_notice(numbers, who, slot, memory)
+    } else {
+        Word::Unsent
     }
-    first_notice(numbers, who, slot, words, orders, ballots)
 }
 
 pub fn heed(
@@ -73,25 +57,22 @@ pub fn heed(
     round: Round,
     slot: usize,
     phase: usize,
-    words: &[u16],
-    orders: &[u64],
-    ballots: &[u8],
+    memory: &Memory,
     strip: &[u8],
 ) -> Effect
-    requires { (who < numbers.n) × (misplaced numbers round slot phase ≡ false) × (Reach numbers words.now orders.now ballots.now)
+    requires { (who < numbers.n) × (misplaced numbers round slot phase ≡ false) × (Reach numbers (held memory.now))
         × (numbers.slots * numbers.phases ≤ length strip.now) }
-    ensures { let k = heard_by numbers who slot phase words.now orders.now ballots.now in
-        let word = noticed_by numbers who slot words.now orders.now ballots.now in
+    ensures { let k = heard_by numbers who slot phase (held memory.now) in
+        let word = noticed_by numbers who slot (held memory.now) in
         result ≡ settle (heeding word (advance_rule numbers (coin numbers.phases strip.now slot phase) k round)) }
 {
-    let word = noticed(numbers, who, slot, words, orders, ballots);
+    let word = noticed(numbers, who, slot, memory);
     if is_sent(word) {
-        return Effect::Close {
+        Effect::Close {
             entry: tag_of(word),
             own: false,
-        };
+        }
+    } else {
+        advance_rule(numbers, who, round, slot, phase, memory, strip)
     }
-    advance_rule(
-        numbers, who, round, slot, phase, words, orders, ballots, strip,
-    )
 }

@@ -3,30 +3,33 @@
 
 ghost use Rattle.std.specs.Prelude.{◌≡◌};
 ghost use Rattle.tables.specs.Calls.{open_outcome, called};
-ghost use Rattle.tables.specs.Lent.{moments};
+ghost use Rattle.tables.specs.Lent.{held, Same};
 
-use conduct::conduct;
+use conduct::{Conducted, conduct};
 use model::{Answer, Call, Numbers};
 use opening::open;
 use runs::run_on;
 use steps::take_step;
+use tables::Memory;
 
 // It does what the single calls do; demand 3 folds its contract.
-pub fn perform(
-    call: Call,
-    numbers: Numbers,
-    words: &mut [u16],
-    orders: &mut [u64],
-    ballots: &mut [u8],
-    strip: &mut [u8],
-) -> Answer
-    ensures { let t = moments words orders ballots in
-        open_outcome result t.exit strip.new ≡ called numbers call t.entry strip.old }
+pub fn perform(call: Call, numbers: Numbers, memory: &mut Memory, strip: &mut [u8]) -> Answer
+    ensures same { Same memory.old memory.new }
+    ensures outcome { open_outcome result (held memory.new) strip.new ≡ called numbers call (held memory.old) strip.old }
 {
     match call {
-        Call::Open(plan) => open(plan, words, orders, ballots, strip),
-        Call::Single(step) => take_step(step, numbers, words, orders, ballots, strip),
-        Call::RunOn(who) => run_on(numbers, who, words, orders, ballots, strip),
-        Call::Conduct => conduct(numbers, words, orders, ballots, strip),
+        Call::Open(plan) => open(plan, memory, strip).map_or_else(Answer::Refused, Answer::Opened),
+        Call::Single(step) => take_step(step, numbers, memory, strip).map_or_else(
+            Answer::Refused,
+            |()| Answer::Done,
+        ),
+        Call::RunOn(who) => run_on(numbers, who, memory, strip).map_or_else(
+            Answer::Refused,
+            Answer::Ran,
+        ),
+        Call::Conduct => conduct(numbers, memory, strip).map_or_else(
+            Answer::Refused,
+            |Conducted { steps, relays }| { Answer::Conducted { steps, relays } },
+        ),
     }
 }

@@ -1,10 +1,12 @@
 -- The conductor: one law for each way out, and that the steps by masks are those by the rack.
 use Prim.Native.Nat.{ℕ, ◌-◌, ◌*◌, ◌<◌, ◌≤◌}
 use mathlib.Core.Bool.{Bool, true, false, not, ◌&&◌}
+use Rattle.std.specs.Prelude.{Result, Ok, Err, ⊤}
+use Rattle.std.specs.Result.{IsErrAnd}
 use mathlib.Core.List.{List, [], ◌∷◌, ◌++◌}
 use mathlib.Core.Logic.{◌≢◌}
 use mathlib.Core.Path.{◌≡◌, sym, ◌∙◌, ap, ap₂, fun_ext}
-use lib.Dec.{leb, ltb, eqb}
+use lib.Dec.{eqb}
 use lib.ListN.{length}
 use borrow.Author.Tests.{lt-ltb, le-ltb, le-leb, lt-leb, eq-eqb, ne_eqb, eqb-true, not-true, not-false}
 use Rattle.model.specs.declared.Numbers.{Numbers}
@@ -13,14 +15,17 @@ use Rattle.model.specs.declared.Refusal.TheVariants.{ShortTable, SpoiledRecord, 
 use Rattle.model.specs.declared.Act.{Act}
 use Rattle.model.specs.declared.Act.TheVariants.{Relay, Begin, Advance}
 use Rattle.model.specs.declared.Step.{Step}
-use Rattle.model.specs.declared.Answer.TheVariants.{Refused, Conducted}
+use Rattle.model.specs.declared.Answer.{Answer}
+use Rattle.model.specs.declared.Answer.TheVariants.{Refused, Done, Conducted}
+use Rattle.model.specs.Answers.{answer_in}
 use Rattle.model.specs.Rack.{Replica, Rack}
-use Rattle.model.specs.TurnedAway.{Ground, ◌when◌, unless}
-use Rattle.model.specs.Rules.{quorum, strip_short}
+use Rattle.model.specs.Tests.{if}
+use Rattle.model.specs.TurnedAway.{◌when◌, unless}
+use Rattle.model.specs.Rules.{strip_short}
 use Rattle.model.specs.Conductor.{for_each, does, hear, hear_steps, round_steps, slot_steps, is_running, running_count, common_slot}
 use Rattle.model.specs.Conductor.{level, common_tag, lacks, conduct_refusals, relay_steps, conduct_steps}
 use Rattle.model.specs.Scripts.{Played, ended, play, conducting, after_all, accepted_of}
-use Rattle.model.proofs.Branches.{told, when_met, when_missed, none_left}
+use Rattle.model.proofs.Branches.{told}
 use Rattle.model.proofs.Cases.{Unmet, unmet_both, unless_then, unless_map}
 use Rattle.model.proofs.Sequences.{each_same, conducted_by, conducts_by}
 use Rattle.tables.specs.Layout.{Tables, has_bit}
@@ -29,65 +34,42 @@ use Rattle.tables.specs.declared.Lengths.{Lengths}
 use Rattle.tables.specs.Checks.{lengths, long, tables_refusals}
 use Rattle.tables.specs.Sound.{Sound, sound, own_view}
 use Rattle.tables.specs.Calls.{on_tables, tables_barred, conducted}
-use Rattle.refusals.specs.declared.Vetted.{Vetted}
-use Rattle.refusals.specs.declared.Vetted.TheVariants.{Refused as Barred, Passed}
 use Rattle.refusals.specs.Vet.{run_spoiled}
-use Rattle.acts.proofs.GateLaws.{passed_unmet}
+use Rattle.acts.proofs.GateLaws.{turned_away, passed_unmet}
 use Rattle.survey.specs.Marked.{Marked}
 use Rattle.rounds.specs.Made.{Made, Ready}
-use Rattle.conduct.specs.Seen.{tag_refusals}
+use Rattle.conduct.specs.declared.Found.{Found}
+use Rattle.conduct.specs.Seen.{Seen}
 
 -- ---- 3 and 2
 
 module _ (N : Numbers) (strip : List ℕ) (t : Tables) where
-  abbrev Bars : Vetted → Type 0
-  Bars v = v ≡ unless Barred (tables_barred N strip t) Passed
+  abbrev Bars : Result ⊤ Refusal → Type 0
+  Bars v = v ≡ unless Err (tables_barred N strip t) (Ok tt)
 
-  pub bar_spoiled : {b : Bool} → b ≡ run_spoiled N t.words → b ≡ true → Bars (Barred SpoiledRecord)
-  bar_spoiled is h = sym (when_met Barred SpoiledRecord _ _ (told is h))
+  pub bar_spoiled : {b : Bool} → b ≡ run_spoiled N t.words → b ≡ true → Bars (Err SpoiledRecord)
+  unfolding unless if
+  bar_spoiled is h = rw (told is h)
 
   module _ {b g : Bool} {l : Lengths} (is : b ≡ run_spoiled N t.words) (h : b ≡ false) (measured : l ≡ lengths t) (asked : g ≡ long N l) where
-    past_spoiled : {v : Vetted} → v ≡ unless Barred (ShortTable when not (long N (lengths t)) ∷ ShortTable when strip_short N strip ∷ []) Passed → Bars v
-    past_spoiled q = q ∙ sym (when_missed Barred SpoiledRecord _ _ (told is h))
+    pub bar_short : g ≡ false → Bars (Err ShortTable)
+    unfolding unless if
+    bar_short e = rw (told is h, ← measured, ← asked, e)
 
-    not_long : {v : Bool} → g ≡ v → not (long N (lengths t)) ≡ not v
-    not_long e = ap not (ap (long N) (sym measured) ∙ told asked e)
+    pub bar_strip : g ≡ true → length strip < N.slots * N.phases → Bars (Err ShortTable)
+    unfolding unless if
+    bar_strip e few = rw (told is h, ← measured, ← asked, e, lt-ltb _ _ few)
 
-    pub bar_short : g ≡ false → Bars (Barred ShortTable)
-    bar_short e = past_spoiled (sym (when_met Barred ShortTable _ _ (not_long e)))
-
-    pub bar_strip : g ≡ true → length strip < N.slots * N.phases → Bars (Barred ShortTable)
-    bar_strip e few = past_spoiled (sym (when_missed Barred ShortTable _ _ (not_long e) ∙ when_met Barred ShortTable [] _ (lt-ltb _ _ few)))
-
-    pub bar_none : g ≡ true → N.slots * N.phases ≤ length strip → Bars Passed
-    bar_none e enough =
-        past_spoiled (sym (when_missed Barred ShortTable _ _ (not_long e) ∙ when_missed Barred ShortTable [] _ (le-ltb _ _ enough) ∙ none_left Barred Passed))
+    pub bar_none : g ≡ true → N.slots * N.phases ≤ length strip → Bars (Ok tt)
+    unfolding unless if
+    bar_none e enough = rw (told is h, ← measured, ← asked, e, le-ltb _ _ enough)
 
   -- what is known where none of them is met
-  pub passed_sound : {v : Vetted} → Bars v → v ≡ Passed → Sound N t × (strip_short N strip ≡ false)
+  pub passed_sound : Bars (Ok tt) → Sound N t × (strip_short N strip ≡ false)
   unfolding Unmet
-  passed_sound asked e =
-      let (lent, short) = unmet_both (tables_refusals N t) (ShortTable when strip_short N strip ∷ [])
-      (passed_unmet (tables_barred N strip t) (sym asked ∙ e)) in
+  passed_sound passed =
+      let (lent, short) = unmet_both (tables_refusals N t) (ShortTable when strip_short N strip ∷ []) (passed_unmet (tables_barred N strip t) (sym passed)) in
       (sound N t lent, short.0)
-
-  -- the whole call, by what they come to
-  abbrev behind : Vetted → Played Tables
-  behind (Barred why) = ended (Refused why) t
-  behind Passed = unless (λ why. ended (Refused why) t) (conduct_refusals N (view N t))
-      (play (on_tables N strip) (conducting (relay_steps N (view N t)) (conduct_steps N (view N t))) t)
-
-  by_bar : {v : Vetted} → Bars v → behind v ≡ conducted N strip t
-  unfolding conducted
-  by_bar asked =
-      ap behind asked ∙ unless_map behind Barred Passed (tables_barred N strip t) ∙ sym (unless_then _ _ (tables_barred N strip t) _)
-      ∙ sym (conducts_by (on_tables N strip) N t)
-
-  pub bar_turns : {v : Vetted} {why : Refusal} → Bars v → v ≡ Barred why → ended (Refused why) t ≡ conducted N strip t
-  bar_turns asked e = ap behind (sym e) ∙ by_bar asked
-
-  pub bar_passes : {v : Vetted} {o : Played Tables} → Bars v → v ≡ Passed → o ≡ behind Passed → o ≡ conducted N strip t
-  bar_passes asked e q = q ∙ ap behind (sym e) ∙ by_bar asked
 
 -- ---- the steps by masks are those by the rack
 
@@ -116,68 +98,87 @@ module _ (N : Numbers) (strip : List ℕ) (t : Tables) where
   abbrev steps_made : Played Tables
   steps_made = play (on_tables N strip) (conducting (relay_steps N r) (conduct_steps N r)) t
 
-  pub by_masks : (running lacking slot tag : ℕ) → Marked n (is_running N r) running → Marked n (lacks N r tag) lacking → slot ≡ common_slot N r
-      → tag ≡ common_tag N r
-      → play (on_tables N strip) (conducting (for_each n (has_bit lacking) (does (Relay tag))) (slot_steps n (has_bit running) slot)) t ≡ steps_made
+  pub by_masks : (found : Found) → Seen N r found
+      → play (on_tables N strip) (conducting (for_each n (has_bit found.lacking) (does (Relay found.tag))) (slot_steps n (has_bit found.running) found.slot)) t
+      ≡ steps_made
   unfolding relay_steps conduct_steps
-  by_masks running lacking slot tag on lack at is =
+  by_masks found seen =
       ap₂ (λ (xs ys : List Step). play (on_tables N strip) (conducting xs ys) t)
-      (each_same n _ _ (does (Relay tag)) lack ∙ ap (λ (x : ℕ). for_each n (lacks N r x) (does (Relay x))) is)
-      (slot_same n _ _ on slot ∙ ap (slot_steps n (is_running N r)) at)
+      (each_same n _ _ (does (Relay found.tag)) seen.lacking ∙ ap (λ (x : ℕ). for_each n (lacks N r x) (does (Relay x))) seen.tag)
+      (slot_same n _ _ seen.running found.slot ∙ ap (slot_steps n (is_running N r)) seen.slot)
 
   -- they were made
-  pub carried : {xs ys : List Step} {u v : Tables} {j k : ℕ} → Made N strip xs t u j → Made N strip ys u v k
+  carried : {xs ys : List Step} {u v : Tables} {j k : ℕ} → Made N strip xs t u j → Made N strip ys u v k
       → ended (Conducted k j) v ≡ play (on_tables N strip) (conducting xs ys) t
   carried {xs} {ys} {u} {v} {j} {k} a b = let w = on_tables N strip in
       (λ i. ended (Conducted ((b.counted ∙ ap (accepted_of w ys) a.left) i) (a.counted i)) ((b.left ∙ ap (after_all w ys) a.left) i))
       ∙ sym (conducted_by w xs ys t)
 
-  -- ---- the refusals
+  -- ---- behind the refusals
 
-  abbrev away : Refusal → Played Tables
-  away why = ended (Refused why) t
+  abbrev level_played : Played Tables
+  level_played = unless (λ why. ended (Refused why) t) (conduct_refusals N r) steps_made
 
-  abbrev Answers : Played Tables → List Ground → Type 0
-  Answers o gs = o ≡ unless away gs steps_made
+  -- 3 and 2, and the others
+  abbrev barred : Result ⊤ Refusal → Played Tables
+  barred (Err why) = ended (Refused why) t
+  barred _ = level_played
 
-  -- 12
-  module _ {tag : ℕ} (is : tag ≡ common_tag N r) where
-    pub none_pending : tag ≡ 0 → Answers (away NothingPending) (tag_refusals N r)
-    none_pending e = sym (when_met away NothingPending _ _ (eq-eqb _ 0 (sym is ∙ e)))
+  by_bar : {v : Result ⊤ Refusal} → Bars N strip t v → barred v ≡ conducted N strip t
+  unfolding conducted
+  by_bar asked = ap barred asked ∙ unless_map barred Err (Ok tt) (tables_barred N strip t) ∙ sym (unless_then _ _ (tables_barred N strip t) _)
+      ∙ sym (conducts_by (on_tables N strip) N t)
 
-    pub some_pending : {o : Played Tables} → tag ≢ 0 → o ≡ steps_made → Answers o (tag_refusals N r)
-    some_pending ne q = q ∙ sym (when_missed away NothingPending [] _ (ne_eqb _ 0 (λ e. ne (is ∙ e))) ∙ none_left away _)
+  abbrev settled : Answer → Played Tables
+  settled (Refused why) = ended (Refused why) t
+  settled _ = steps_made
 
-  -- 23
+  by_level : {a : Answer} → a ≡ unless Refused (conduct_refusals N r) Done → settled a ≡ level_played
+  by_level q = ap settled q ∙ unless_map settled Refused Done (conduct_refusals N r)
+
+  -- one law for each way out
+  module _ {T : Type 0} (good : T → Answer) (o : Result T Refusal) {why : Refusal} (away : IsErrAnd o (λ y. y ≡ why)) where
+    pub bar_turns : Bars N strip t (Err why) → ended (answer_in good o) t ≡ conducted N strip t
+    bar_turns asked = ap (λ (o : Result T Refusal). ended (answer_in good o) t) (turned_away away) ∙ by_bar asked
+
+    pub level_turns : Bars N strip t (Ok tt) → Refused why ≡ unless Refused (conduct_refusals N r) Done → ended (answer_in good o) t ≡ conducted N strip t
+    level_turns passed q = ap (λ (o : Result T Refusal). ended (answer_in good o) t) (turned_away away) ∙ by_level q ∙ by_bar passed
+
+  pub level_passes : {found : Found} → Bars N strip t (Ok tt) → Done ≡ unless Refused (conduct_refusals N r) Done → Seen N r found
+      → {u v : Tables} {j k : ℕ} → Made N strip (for_each n (has_bit found.lacking) (does (Relay found.tag))) t u j
+      → Made N strip (slot_steps n (has_bit found.running) found.slot) u v k → ended (Conducted k j) v ≡ conducted N strip t
+  level_passes {found} passed q seen a b = carried a b ∙ by_masks found seen ∙ by_level q ∙ by_bar passed
+
+-- ---- 23, 22, 11, 12
+
+module _ (N : Numbers) (r : Rack) where
+  abbrev Answers : Answer → Type 0
+  Answers a = a ≡ unless Refused (conduct_refusals N r) Done
+
+  -- one law for each way out, in the order of the tests
   module _ {found : ℕ} (counted : found ≡ running_count N r) where
-    pub too_few : found < n - N.f → Answers (away TooFewRunning) (conduct_refusals N r)
-    too_few h = sym (when_met away TooFewRunning _ _ (ap (λ (k : ℕ). ltb k (quorum N)) (sym counted) ∙ lt-ltb _ _ h))
+    pub too_few : found < N.n - N.f → Answers (Refused TooFewRunning)
+    unfolding unless if
+    too_few h = rw (← counted, lt-ltb _ _ h)
 
-    module _ (h : n - N.f ≤ found) where
-      abbrev behind_quorum : List Ground
-      behind_quorum = NotLevel when not (level N r (common_slot N r)) ∷ LogFull when leb N.slots (common_slot N r) ∷ tag_refusals N r
+    module _ (enough : N.n - N.f ≤ found) {slot : ℕ} (at : slot ≡ common_slot N r) {b : Bool} (asked : b ≡ level N r slot) where
+      pub not_level : b ≡ false → Answers (Refused NotLevel)
+      unfolding unless if
+      not_level e = rw (← counted, le-ltb _ _ enough, ← at, ← asked, e)
 
-      past_quorum : {o : Played Tables} → Answers o behind_quorum → Answers o (conduct_refusals N r)
-      past_quorum q = q ∙ sym (when_missed away TooFewRunning _ _ (ap (λ (k : ℕ). ltb k (quorum N)) (sym counted) ∙ le-ltb _ _ h))
+      module _ (e : b ≡ true) where
+        pub log_full : N.slots ≤ slot → Answers (Refused LogFull)
+        unfolding unless if
+        log_full h = rw (← counted, le-ltb _ _ enough, ← at, ← asked, e, le-leb _ _ h)
 
-      -- 22
-      module _ {slot : ℕ} (at : slot ≡ common_slot N r) {b : Bool} (asked : b ≡ level N r slot) where
-        is_level : {v : Bool} → b ≡ v → level N r (common_slot N r) ≡ v
-        is_level e = ap (level N r) (sym at) ∙ sym asked ∙ e
+        module _ (below : slot < N.slots) {tag : ℕ} (is : tag ≡ common_tag N r) where
+          pub none_pending : tag ≡ 0 → Answers (Refused NothingPending)
+          unfolding unless if
+          none_pending q = rw (← counted, le-ltb _ _ enough, ← at, ← asked, e, lt-leb _ _ below, ← is, eq-eqb _ _ q)
 
-        pub not_level : b ≡ false → Answers (away NotLevel) (conduct_refusals N r)
-        not_level e = past_quorum (sym (when_met away NotLevel _ _ (ap not (is_level e))))
-
-        module _ (e : b ≡ true) where
-          past_level : {o : Played Tables} → Answers o (LogFull when leb N.slots (common_slot N r) ∷ tag_refusals N r) → Answers o (conduct_refusals N r)
-          past_level q = past_quorum (q ∙ sym (when_missed away NotLevel _ _ (ap not (is_level e))))
-
-          -- 11
-          pub log_full : N.slots ≤ slot → Answers (away LogFull) (conduct_refusals N r)
-          log_full h = past_level (sym (when_met away LogFull _ _ (ap (leb N.slots) (sym at) ∙ le-leb _ _ h)))
-
-          pub log_open : {o : Played Tables} → slot < N.slots → Answers o (tag_refusals N r) → Answers o (conduct_refusals N r)
-          log_open h q = past_level (q ∙ sym (when_missed away LogFull _ _ (ap (leb N.slots) (sym at) ∙ lt-leb _ _ h)))
+          pub none_met : tag ≢ 0 → Answers Done
+          unfolding unless if
+          none_met ne = rw (← counted, le-ltb _ _ enough, ← at, ← asked, e, lt-leb _ _ below, ← is, ne_eqb _ _ ne)
 
 -- the running ones of a mask meet no first refusal
 pub ready : (N : Numbers) (t : Tables) (mask : ℕ) → Sound N t → Marked N.n (is_running N (view N t)) mask → Ready N mask t

@@ -3,14 +3,14 @@
 use Prim.Native.Nat.{ℕ, suc, ◌+◌, ◌-◌, ◌<◌}
 use Rattle.std.proofs.Common.{arith, inr, ◌∙◌}
 use Rattle.std.proofs.Math.Nat.{le_refl}
-use Rattle.std.specs.Prelude.{Bool, false, ◌&&◌, ◌≢◌, ◌≡◌, ltb, eqb}
+use Rattle.std.specs.Prelude.{Bool, false, ◌&&◌, ◌≢◌, ◌≡◌, ltb, eqb, Some, None}
 use Rattle.std.proofs.Math.Bool.{true, not}
 use mathlib.Core.List.{List}
 use Rattle.std.proofs.Math.Path.{refl, ap, ap₂}
 use Rattle.std.proofs.Math.Dec.{leb}
 use borrow.Author.Tests.{eqb-false, ne_eqb, lt-leb, le-ltb, not-true}
 use Rattle.tables.specs.Types.{Numbers, Exchange, State, Vote, Sort, Proposals, States, Votes, Tag, Say, Unsure}
-use Rattle.tables.specs.Types.{Outcome, Undecided, Decided, Send, Close, Seek, Receive, Advance, Step}
+use Rattle.tables.specs.Types.{Outcome, Send, Close, Seek, Receive, Advance, Step}
 use Rattle.model.specs.Tests.{if, set}
 use Rattle.model.specs.Rack.{same_outcome, sort_number, is, is_sent, Replica, Rack, apply}
 use Rattle.model.specs.Rules.{quorum, majority, heard_count, majority_tag, vote_of, outcome, conclude}
@@ -91,7 +91,7 @@ module _ (N : Numbers) (r : Rack) (strip : List ℕ) (level : Level N r strip) w
     vote_turn now = one_step N strip _ (Closed N r) h
         (advances N r strip level c l h Votes (omega arith) now Vote now.round (
           rw now.phase (heard_enough Votes (omega arith) now),
-          (ap (λ (o : Outcome). same_outcome Undecided o && leb phases k.phase) decided, tt),
+          (ap (λ (o : Outcome). same_outcome None o && leb phases k.phase) decided, tt),
         )
         ∙ ap (conclude N _ k) decided ∙ ap (λ (y : ℕ). if (eqb y 0) Seek (Close y true)) (tag_found Votes (omega arith) now)
         ∙ if-false _ _ (ne_eqb x 0 level.a_tag))
@@ -102,8 +102,8 @@ module _ (N : Numbers) (r : Rack) (strip : List ℕ) (level : Level N r strip) w
           entries = ap₂ (λ (t : ℕ) (g : ℕ → ℕ). set t x g) now.in_slot.slot now.in_slot.entries;
         }))
       where
-        decided : outcome N k ≡ Decided true
-        decided = let fits = level.fits in prevails N k Votes k.phase (f + 1) (Decided false) (Decided true) Undecided
+        decided : outcome N k ≡ Some true
+        decided = let fits = level.fits in prevails N k Votes k.phase (f + 1) (Some false) (Some true) None
             (rw now.phase (quorum_of N r strip level c l h Votes (omega arith) now Votes (le_refl 3) (is (Say true)) refl)) (omega arith) (omega arith)
 
   -- ---- it hears each other running one, and none twice

@@ -1,58 +1,27 @@
 -- A record that was moved, or halted.
-use Prim.Native.Nat.{ℕ, ◌+◌, ◌^◌, ◌≤◌, ◌<◌}
-use native.Mathlib.Numerals.{add-one}
+use Prim.Native.Nat.{ℕ, ◌^◌, ◌≤◌, ◌<◌}
 use native.Mathlib.Omega.{arith}
-use mathlib.Core.Bool.{Bool, true, false, ◌&&◌}
+use mathlib.Core.Bool.{Bool}
 use mathlib.Core.List.{List}
 use mathlib.Core.Logic.{inr}
-use mathlib.Core.Path.{◌≡◌, sym, ap, ◌∙◌, subst}
-use lib.Dec.{eqb}
+use mathlib.Core.Path.{◌≡◌, sym, ◌∙◌, subst}
 use lib.ListN.{set}
 use Rattle.model.specs.declared.Numbers.{Numbers}
 use Rattle.model.specs.declared.Round.{Round}
-use Rattle.model.specs.declared.Round.TheVariants.{Find}
 use Rattle.model.specs.declared.Sort.{Sort}
 use Rattle.model.specs.declared.Sort.TheVariants.{Notices}
 use Rattle.model.specs.declared.Word.{Word}
 use Rattle.model.specs.declared.Effect.TheVariants.{Send, Close}
 use Rattle.tables.specs.declared.Record.{Record}
-use Rattle.model.specs.Tests.{bit}
 use Rattle.model.specs.Limits.{most_phases}
-use Rattle.model.specs.Rack.{round_number, round_of}
-use Rattle.tables.specs.Layout.{record_end, record_at, record_stored, proposal_cell, ballot_cell, heard_cell, log_cell}
+use Rattle.model.specs.Rack.{round_of}
+use Rattle.tables.specs.Layout.{Tables, record_end, record_at, record_stored, proposal_cell, ballot_cell, heard_cell, log_cell}
 use Rattle.tables.specs.Bounds.{Bounds}
 use Rattle.tables.specs.Addresses.{Within, notice_within, phase_low}
 use Rattle.tables.specs.Sections.{elsewhere, record_agrees}
-use Rattle.tables.specs.Write.{word_number, proposal_stored, ballot_stored, moved, shut, halted, with_change, words_sent, write}
+use Rattle.tables.specs.Write.{word_number, proposal_stored, ballot_stored, moved, shut, words_sent, write}
 use Rattle.tables.specs.Calls.{tables}
 use Rattle.effects.specs.Doable.{Closable}
-
--- a round by its number
-pub entered_by : (ws : List ℕ) (c : ℕ) (k : Record) (a : Round) (s p : ℕ) {number : ℕ} {ws' : List ℕ} → number ≡ round_number a
-    → ws' ≡ record_stored ws c (record { crashed = k.crashed; round = number; slot = s; phase = p; empty = k.empty; fast = k.fast })
-    → ws' ≡ record_stored ws c (moved a s p k)
-entered_by ws c k a s p e q =
-    q ∙ (λ i. record_stored ws c (record { crashed = k.crashed; round = e i; slot = s; phase = p; empty = k.empty; fast = k.fast }))
-
--- ---- a record that is shut
-
-pub raised_once : (more : Bool) (k : ℕ) → more ≡ true → k + 1 ≡ bit more + k
-raised_once more k h = rw h (omega arith)
-
-pub not_raised : (more : Bool) (k : ℕ) → more ≡ false → k ≡ bit more + k
-not_raised more k h = rw h (omega arith)
-
-pub by_phase : (own b : Bool) → own ≡ true → b ≡ (own && b)
-by_phase own b h = rw h
-
--- by its counts, and that its slot is one more
-pub shut_by : (ws : List ℕ) (c : ℕ) (k : Record) (x : ℕ) (own : Bool) {empty fast : ℕ} {more : Bool} {ws' : List ℕ}
-    → empty ≡ bit (eqb x 0) + k.empty → more ≡ (own && eqb k.phase 1) → fast ≡ bit more + k.fast
-    → ws' ≡ record_stored ws c (record { crashed = k.crashed; round = 0; slot = k.slot + 1; phase = k.phase; empty = empty; fast = fast })
-    → ws' ≡ record_stored ws c (shut x own k)
-shut_by ws c k x own {more = more} e b f q =
-    let g = f ∙ ap (λ (b : Bool). bit b + k.fast) b in
-    q ∙ (λ i. record_stored ws c (record { crashed = k.crashed; round = 0; slot = add-one k.slot i; phase = k.phase; empty = e i; fast = g i }))
 
 -- a store behind a record leaves it
 record_kept : (ws : List ℕ) (c i v : ℕ) → record_end c ≤ i → record_at (set ws i v) c ≡ record_at ws c
@@ -60,15 +29,6 @@ record_kept ws c i v h = record_agrees c (elsewhere ws i v (inr h))
 
 -- ---- by the record that was loaded
 module _ (ws : List ℕ) (c : ℕ) {k : Record} (loaded : k ≡ record_at ws c) where
-  -- it is halted
-  pub halted_by : {ws' : List ℕ} → ws' ≡ record_stored ws c (halted k) → ws' ≡ record_stored ws c (halted (record_at ws c))
-  halted_by q = q ∙ ap (λ (k : Record). record_stored ws c (halted k)) loaded
-
-  -- it enters the find round
-  pub sought_by : {ws' : List ℕ} → ws' ≡ record_stored ws c (moved Find k.slot k.phase k)
-      → ws' ≡ with_change ws c (moved Find (record_at ws c).slot (record_at ws c).phase)
-  sought_by q = q ∙ ap (λ (k : Record). record_stored ws c (moved Find k.slot k.phase k)) loaded
-
   module _ (N : Numbers) where
     -- its slot is one of the run, and can be closed
     pub closable_is : Closable N (record_at ws c) → Closable N k
@@ -76,9 +36,6 @@ module _ (ws : List ℕ) (c : ℕ) {k : Record} (loaded : k ≡ record_at ws c) 
 
     pub slot_is : Closable N (record_at ws c) → k.slot < N.slots
     slot_is h = (closable_is h).low
-
-    pub within_is : {so : Sort} {p : ℕ} → Within N so (record_at ws c).slot p c → Within N so k.slot p c
-    within_is {so} {p} w = subst (λ (k : Record). Within N so k.slot p c) (sym loaded) w
 
     -- its notice is a message of the run
     pub own_notice : c < N.n → Closable N (record_at ws c) → Within N Notices k.slot 0 c
@@ -109,16 +66,16 @@ module _ (ws : List ℕ) (c : ℕ) {k : Record} (loaded : k ≡ record_at ws c) 
           ∙ (λ i. record_stored (set ws (heard_cell N so (loaded i).slot p c) (2 ^ c)) c (moved (round_of so) (loaded i).slot p (same i)))
 
       -- it sends
-      pub sent_by : (w : Word) (os bs : List ℕ) {ws' os' bs' marked : List ℕ} {a : Round} → Within N so (record_at ws c).slot p c
-          → (marked ≡ set ws (heard_cell N so k.slot p c) (2 ^ c))
-          × (os' ≡ proposal_stored so (proposal_cell N k.slot c) (word_number w) os)
-          × (bs' ≡ ballot_stored so (ballot_cell N so k.slot p c) (word_number w) bs)
-          → a ≡ round_of so → ws' ≡ record_stored marked c (moved a k.slot p k) → tables ws' os' bs' ≡ write N c (Send so p w) (tables ws os bs)
+      pub sent_by : (w : Word) (os bs : List ℕ) {ws' : List ℕ} {sent : Tables} {a : Round} → Within N so (record_at ws c).slot p c
+          → sent ≡ tables (set ws (heard_cell N so k.slot p c) (2 ^ c)) (proposal_stored so (proposal_cell N k.slot c) (word_number w) os)
+          (ballot_stored so (ballot_cell N so k.slot p c) (word_number w) bs)
+          → a ≡ round_of so → ws' ≡ record_stored sent.words c (moved a k.slot p k)
+          → tables ws' sent.orders sent.ballots ≡ write N c (Send so p w) (tables ws os bs)
       unfolding write
       sent_by w os bs d m e q =
-          let left = words_left d.sender m.0 e q in
-          let proposed = m.1 ∙ (λ i. proposal_stored so (proposal_cell N (loaded i).slot c) (word_number w) os) in
-          let voted = m.2 ∙ (λ i. ballot_stored so (ballot_cell N so (loaded i).slot p c) (word_number w) bs) in
+          let left = words_left d.sender (λ i. (m i).words) e q in
+          let proposed = (λ i. (m i).orders) ∙ (λ i. proposal_stored so (proposal_cell N (loaded i).slot c) (word_number w) os) in
+          let voted = (λ i. (m i).ballots) ∙ (λ i. ballot_stored so (ballot_cell N so (loaded i).slot p c) (word_number w) bs) in
           λ i. tables (left i) (proposed i) (voted i)
 
 -- a phase of the run fits its word

@@ -1,5 +1,5 @@
 // What a send, a close and a find store. Each loads the acting record once.
-ghost use Rattle.std.specs.Prelude.{List, ◌≡◌, ℕ, ◌<◌};
+ghost use Rattle.std.specs.Prelude.{List, ◌≡◌, ℕ};
 ghost use Rattle.model.specs.declared.Round.TheVariants.{Find};
 ghost use Rattle.model.specs.declared.Effect.TheVariants.{Send, Close};
 ghost use Rattle.model.specs.Rack.{round_of};
@@ -7,7 +7,7 @@ ghost use Rattle.tables.specs.Layout.{record_at};
 ghost use Rattle.tables.specs.Addresses.{Within};
 ghost use Rattle.tables.specs.Write.{moved, with_change, write};
 ghost use Rattle.tables.specs.Calls.{tables};
-ghost use Rattle.tables.specs.Lent.{moments};
+ghost use Rattle.tables.specs.Lent.{held, Same};
 ghost use Rattle.known.specs.Room.{Acting};
 ghost use Rattle.messages.specs.Reach.{Reach, Fitting};
 ghost use Rattle.effects.specs.Doable.{RecordThere, Closable};
@@ -16,6 +16,7 @@ use crate::stand::{enter, log_entry, shut};
 use cells::records::load;
 use messages::sending::{send_message, store_mark};
 use model::{Numbers, Round, Sort, Word};
+use tables::{Address, Memory, Record};
 
 fn round_of(sort: Sort) -> Round
     ensures { result ≡ round_of sort }
@@ -28,27 +29,31 @@ fn round_of(sort: Sort) -> Round
     }
 }
 
-pub fn send(
-    numbers: Numbers,
-    who: usize,
-    sort: Sort,
-    phase: usize,
-    word: Word,
-    words: &mut [u16],
-    orders: &mut [u64],
-    ballots: &mut [u8],
-)
-    requires { (Within numbers sort (record_at words.old who).slot phase who) × (Fitting sort word)
-        × (Reach numbers words.old orders.old ballots.old) }
-    ensures { let t = moments words orders ballots in
-        t.exit ≡ write numbers who (Send sort phase word) t.entry }
+// The record of `who`. Of one table that is read behind a `&mut Memory` the prover forgets what stands in it, of the memory as a
+// whole it doesn't.
+fn own_record(who: usize, memory: &Memory) -> Record
+    requires { RecordThere who (held memory.now).words }
+    ensures { result ≡ record_at (held memory.now).words who }
 {
-    let k = load(words, who);
+    load(memory.words, who)
+}
+
+pub fn send(numbers: Numbers, who: usize, sort: Sort, phase: usize, word: Word, memory: &mut Memory)
+    requires { (Within numbers sort (record_at (held memory.old).words who).slot phase who) × (Fitting sort word)
+        × (Reach numbers (held memory.old)) }
+    ensures same { Same memory.old memory.new }
+    ensures left { held memory.new ≡ write numbers who (Send sort phase word) (held memory.old) }
+{
+    let k = own_record(who, memory);
     let slot = k.slot as usize;
-    send_message(
-        numbers, who, sort, slot, phase, word, words, orders, ballots,
-    );
-    enter(who, k, round_of(sort), k.slot, phase as u16, words);
+    let at = Address {
+        sort,
+        slot,
+        phase,
+        sender: who,
+    };
+    send_message(numbers, at, word, memory);
+    enter(who, k, round_of(sort), k.slot, phase as u16, memory.words);
 }
 
 // The entry, and its notice's mark; whatever stands in the ballots.
@@ -60,7 +65,13 @@ pub fn close(numbers: Numbers, who: usize, x: u64, own: bool, words: &mut [u16],
     let k = load(words, who);
     let slot = k.slot as usize;
     log_entry(numbers, who, slot, x, orders);
-    store_mark(numbers, who, Sort::Notices, slot, 0, words);
+    let notice = Address {
+        sort: Sort::Notices,
+        slot,
+        phase: 0,
+        sender: who,
+    };
+    store_mark(numbers, notice, words);
     shut(who, k, x, own, words);
 }
 

@@ -12,6 +12,7 @@ use Rattle.model.specs.Limits.{planned, plan_limited}
 use Rattle.model.specs.Tests.{if}
 use Rattle.tables.specs.Calls.{OpenOutcome, open_rack, called}
 use Rattle.files.specs.declared.Player.{Player}
+use Rattle.files.specs.Found.{None, is_opened}
 use Rattle.files.specs.Play.{too_large, called_in_place}
 use Rattle.files.specs.Room.{opens_within}
 use Rattle.files.specs.LargeLaws.{large_slots, large_phases, large_room}
@@ -24,7 +25,7 @@ opens_here q limits small = opens_within most q limits small blank blank_strip b
 
 -- what the program answers to an opening within the limits, if none was accepted before: refused records leave its tables blank
 -- (`refused_turn_unchanged`, specs/Unchanged)
-module _ (p : Player) (q : Plan) (none : p.opened ≡ false) (limits : plan_limited q ≡ true) where
+module _ (p : Player) (q : Plan) (shut : p.opened ≡ None) (limits : plan_limited q ≡ true) where
   abbrev N : Numbers
   N = planned q
 
@@ -33,8 +34,10 @@ module _ (p : Player) (q : Plan) (none : p.opened ≡ false) (limits : plan_limi
 
   answered : {b : Bool} → b ≡ too_large most (Open q) → answer ≡ if b (Refused ShortTable) (Opened N)
   unfolding if called
-  answered {b = true} l = ap (λ (o : OpenOutcome). o.answer) (sym (on_large most p (Open q) blank blank_strip none (sym l)))
-  answered {b = false} l = ap (λ (o : OpenOutcome). o.answer) (sym (on_call most p (Open q) blank blank_strip none (sym l) refl)) ∙ opens_here q limits (sym l)
+  answered {b = true} l = ap (λ (o : OpenOutcome). o.answer) (sym (on_large most p (Open q) blank blank_strip (ap is_opened shut) (sym l)))
+  answered {b = false} l =
+      ap (λ (o : OpenOutcome). o.answer) (sym (on_call most p (Open q) blank blank_strip (ap is_opened shut) (sym l) refl))
+      ∙ opens_here q limits (sym l)
 
   -- document 02: "2 in the rehearsal program now begins above 16 phases"
   pub above_16 : N.n ≤ most.n → N.slots ≤ most.slots → N.room ≤ most.room → answer ≡ if (ltb 16 N.phases) (Refused ShortTable) (Opened N)

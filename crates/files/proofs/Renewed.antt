@@ -43,7 +43,7 @@ module _ (most : Numbers) (old new : List ℕ) (t : Tables) (strip : List ℕ) w
         rw (s.there, s.there', s.at, s.at') (read_at_rest s.before s.rest ∙ found_alike s.renewed ∙ sym (read_at_rest s.before' s.rest'))
 
     turn_same : SameTurn one other
-    turn_same = let e = pair.same in same_turns most old new _ _ _ _ _ _ e.opened e.numbers e.tables e.strip found_same
+    turn_same = let e = pair.same in same_turns most old new _ _ _ _ _ _ e.opened e.tables e.strip found_same
 
     stand_behind : goes_on one.said ≡ true → Standing most old new t strip one other
     stand_behind h =
@@ -77,7 +77,7 @@ module _ (most : Numbers) (old new : List ℕ) (t : Tables) (strip : List ℕ) w
     together : (k : ℕ) → Together most old new t strip (of_old k) (of_new k)
     unfolding play
     together zero = record {
-      same = record { said = refl; number = refl; values = refl; opened = refl; numbers = refl; tables = refl; strip = refl };
+      same = record { said = refl; number = refl; values = refl; opened = refl; tables = refl; strip = refl };
       standing = λ _. record { before = []; before' = []; rest = old; rest' = new; there = refl; there' = refl; at = refl; at' = refl; renewed = renewed };
     }
     together (suc k) = let pair = together k in

@@ -6,8 +6,7 @@ use Rattle.std.proofs.Common.{arith, sym, ◌∙◌, subst}
 use Rattle.std.proofs.Math.Path.{refl}
 use Rattle.model.specs.declared.Numbers.{Numbers}
 use Rattle.tables.specs.Layout.{Tables}
-use Rattle.files.specs.declared.Found.{Found}
-use Rattle.files.specs.declared.Found.TheVariants.{End, Unknown, Cut, Made}
+use Rattle.files.specs.Found.{Found, Ok, Err, None, Some}
 use Rattle.files.specs.Format.{file_record}
 use Rattle.files.specs.Numbered.{record_number}
 use Rattle.files.proofs.FoundLaws.{told_number}
@@ -24,10 +23,9 @@ module _ (most : Numbers) (p : Player) (t : Tables) (strip : List ℕ) where
 
   found_unchanged : (next : ℕ) (f : Found) → 0 < (turned most p t strip next f).number → Unchanged most p t strip (turned most p t strip next f)
   unfolding turned
-  found_unchanged next End h = absurd (omega arith)
-  found_unchanged next Unknown h = record { tables = refl; strip_kept = refl; opened = refl; numbers = refl }
-  found_unchanged next Cut h = record { tables = refl; strip_kept = refl; opened = refl; numbers = refl }
-  found_unchanged next (Made a) h = let o = called_in_place most p a t strip in
+  found_unchanged next (Ok None) h = absurd (omega arith)
+  found_unchanged next (Err why) h = record { tables = refl; strip_kept = refl; opened = refl }
+  found_unchanged next (Ok (Some a)) h = let o = called_in_place most p a t strip in
       by_answer most p t strip next o (in_place_leaves most p t strip a) o.answer refl h
 
   pub refused_turn_unchanged : (file : List ℕ) → 0 < (turn most file p t strip).number → Unchanged most p t strip (turn most file p t strip)

@@ -2,12 +2,11 @@
 -- stopped.
 use Prim.Native.Nat.{ℕ, zero, suc, ◌+◌, ◌-◌, ◌≤◌}
 use native.Mathlib.Omega.{arith}
-use Rattle.std.specs.Prelude.{true, List, ◌≡◌, refl, leb, ltb, length}
-use Rattle.std.proofs.Common.{sym, ◌∙◌}
+use Rattle.std.specs.Prelude.{true, List, ◌≡◌, leb, ltb, length}
+use Rattle.std.proofs.Common.{refl, sym, ◌∙◌}
 use borrow.Author.Tests.{ltb-false, leb-false}
 use Rattle.model.specs.declared.Numbers.{Numbers}
 use Rattle.model.specs.declared.Answer.{Answer}
-use Rattle.model.specs.declared.Answer.TheVariants.{Refused, Done, Ran, Opened, Conducted}
 use Rattle.model.proofs.Cases.{if-ind, clash}
 use Rattle.tables.specs.Layout.{Tables}
 use Rattle.files.specs.declared.Read.{Read}
@@ -17,12 +16,9 @@ use Rattle.files.specs.declared.Player.{Player}
 use Rattle.files.specs.Play.{Turn, moved_on, turned, turn, goes_on, play, begun}
 use Rattle.files.specs.Reported.{fresh, whole}
 
+-- whatever is answered, reading goes on at the next place
 pub moved_to : (p : Player) (next : ℕ) (a : Answer) → (moved_on p next a).at ≡ next
-moved_to p next (Refused why) = refl
-moved_to p next Done = refl
-moved_to p next (Ran k) = refl
-moved_to p next (Opened N) = refl
-moved_to p next (Conducted k m) = refl
+moved_to p next a = refl
 
 module _ (most : Numbers) (file : List ℕ) where
   -- where reading goes on, so many bytes are read, and no more than there are
@@ -41,7 +37,7 @@ module _ (most : Numbers) (file : List ℕ) where
       let a = leb-false (length file) at here in
       let b = ltb-false (length file - (at + 1)) body there in
       let c = some_body (step_kind (byte file at)) (is_wide (byte file at)) in
-      rw moved_to (omega arith, omega arith))))
+      (omega arith, omega arith))))
 
   module _ (t : Tables) (strip : List ℕ) where
     two_each : (k : ℕ) → Past (k + k) (play k most file (begun fresh t strip))

@@ -1,5 +1,5 @@
 -- The program's tables are large enough: every opening within the limits and not larger than its numbers is accepted on them.
-use Rattle.std.specs.Prelude.{ℕ, ◌*◌, ◌≤◌, true, false, List, ◌≡◌, leb, length, replicate}
+use Rattle.std.specs.Prelude.{ℕ, ◌*◌, ◌≤◌, true, List, ◌≡◌, leb, length, replicate}
 use Rattle.std.proofs.Common.{arith, le-leb}
 use Rattle.std.proofs.lemmas.List.{length-replicate}
 use Rattle.model.specs.declared.Numbers.{Numbers}
@@ -11,6 +11,7 @@ use Rattle.model.proofs.Cases.{and_both}
 use Rattle.tables.specs.Layout.{words_need, orders_need, ballots_need}
 use Rattle.tables.specs.Checks.{lengths, long}
 use Rattle.files.specs.declared.Player.{Player}
+use Rattle.files.specs.Found.{None}
 use Rattle.files.specs.Play.{called_in_place}
 use Rattle.files.specs.Rehearsal.{most, blank, blank_strip}
 
@@ -30,7 +31,7 @@ blank_coins = rw length-replicate (omega arith)
 
 -- what the program answers to an opening within the limits, if none was accepted before: refused records leave its tables blank
 -- (`refused_turn_unchanged`, specs/Unchanged)
-module _ (p : Player) (q : Plan) (none : p.opened ≡ false) (limits : plan_limited q ≡ true) where
+module _ (p : Player) (q : Plan) (shut : p.opened ≡ None) (limits : plan_limited q ≡ true) where
   abbrev N : Numbers
   N = planned q
 

@@ -23,11 +23,9 @@ use Rattle.tables.specs.Calls.{OpenOutcome, opening_refusals, open_rack, called}
 use Rattle.files.specs.Text.{text, decimal}
 use Rattle.files.specs.Lines.{opened_line, refused_line, entry_text, entries_text, light, bench_line}
 use Rattle.files.specs.Decimal.{digits_most, digits_few}
-use Rattle.files.specs.declared.Found.{Found}
-use Rattle.files.specs.declared.Found.TheVariants.{End, Unknown, Cut, Made}
+use Rattle.files.specs.Found.{Found, Option, Ok, Err, None, Some, run_numbers}
 use Rattle.files.specs.declared.Player.{Player}
-use Rattle.files.specs.declared.Said.TheVariants.{Answered}
-use Rattle.files.specs.Play.{Turn, too_large, moved_on, place_refusals, called_in_place, turned, turn, goes_on, play}
+use Rattle.files.specs.Play.{Turn, too_large, opened_by, place_refusals, called_in_place, turned, turn, goes_on, play}
 use Rattle.files.specs.Reported.{said_line, line_on, lines}
 use Rattle.files.specs.Unopened.{step_answer, run_answer, conduct_answer}
 
@@ -68,7 +66,7 @@ opened_short N b =
 
 module _ (k : ℕ) (h : k < 100000) where
   abbrev Short : Answer → Type 0
-  Short a = length (said_line k (Answered a)) ≤ 24
+  Short a = length (said_line k (Ok (Some a))) ≤ 24
 
   refused_short : (why : Refusal) → length (refused_line k why) ≤ 24
   refused_short why =
@@ -93,11 +91,10 @@ module _ (k : ℕ) (h : k < 100000) where
   turn_short : (most : Numbers) (p : Player) (t : Tables) (strip : List ℕ) (next : ℕ) (f : Found)
       → length (said_line k (turned most p t strip next f).said) ≤ 24
   unfolding turned called_in_place said_line
-  turn_short most p t strip next End = omega arith
-  turn_short most p t strip next Unknown = refused_short UnknownKind
-  turn_short most p t strip next Cut = refused_short CutRecord
-  turn_short most p t strip next (Made a) =
-      unless_ind (λ (o : OpenOutcome). Short o.answer) (place_refusals most p a) refused_short (λ _. called_short p.numbers a t strip)
+  turn_short most p t strip next (Ok None) = omega arith
+  turn_short most p t strip next (Err why) = refused_short why
+  turn_short most p t strip next (Ok (Some a)) =
+      unless_ind (λ (o : OpenOutcome). Short o.answer) (place_refusals most p a) refused_short (λ _. called_short (run_numbers p.opened) a t strip)
 
   line_short : (most : Numbers) (file : List ℕ) (x : Turn) → length (line_on k most file x) ≤ 24
   unfolding line_on turn
@@ -150,18 +147,19 @@ bench_short c crashed slots closed entry h few g =
 -- ---- an opened run is no larger than the player's tables
 
 module _ (most : Numbers) where
-  abbrev Fit : Player → Type 0
-  Fit p = p.opened ≡ true → (p.numbers.n ≤ most.n) × (p.numbers.slots ≤ most.slots)
+  abbrev pub Fit : Option Numbers → Type 0
+  Fit None = Unit {0}
+  Fit (Some N) = (N.n ≤ most.n) × (N.slots ≤ most.slots)
 
-  module _ (p : Player) (next : ℕ) (fit : Fit p) (t : Tables) (strip : List ℕ) where
+  module _ (run : Option Numbers) (fit : Fit run) (t : Tables) (strip : List ℕ) where
     -- what an answer leaves
     abbrev pub Stays : Answer → Type 0
-    Stays a = Fit (moved_on p next a)
+    Stays a = Fit (opened_by a run)
 
     pub opening_fits : (q : Plan) → too_large most (Open q) ≡ false → Stays (open_rack q t strip).answer
     unfolding open_rack Unmet
     opening_fits q small = unless_ind (λ (o : OpenOutcome). Stays o.answer) (opening_refusals q t strip) (λ why. fit)
-        (λ u h. let N = planned q in
+        (λ u. let N = planned q in
         let larger = told_small (plan_limited q) _ (not-false (plan_limited q) u.0) small in
         let (a, more) = or_false (ltb most.n N.n) _ larger in
         let (b, more₁) = or_false (ltb most.slots N.slots) _ more in

@@ -1,6 +1,7 @@
 -- Document 01, "Step file": "One byte of kind, then a body whose length the kind fixes; longer numbers have the lowest byte
 -- first."
 use Rattle.std.specs.Prelude.{ℕ, zero, suc, ◌+◌, ◌-◌, ◌*◌, Bool, List, leb, ltb, eqb, length, get_or}
+use Rattle.model.specs.declared.Refusal.TheVariants.{UnknownKind, CutRecord}
 use Rattle.model.specs.declared.ReplicaId.{ReplicaId}
 use Rattle.model.specs.declared.Plan.{Plan}
 use Rattle.model.specs.declared.Message.{Message}
@@ -9,8 +10,7 @@ use Rattle.model.specs.declared.Act.TheVariants.{Submit, Relay, Begin, Hear, Adv
 use Rattle.model.specs.declared.Call.{Call}
 use Rattle.model.specs.declared.Call.TheVariants.{Open, Single, RunOn}
 use Rattle.model.specs.Tests.{if}
-use Rattle.files.specs.declared.Found.{Found}
-use Rattle.files.specs.declared.Found.TheVariants.{End, Unknown, Cut, Made}
+use Rattle.files.specs.Found.{Found, Ok, Err, None, Some}
 use Rattle.files.specs.declared.Read.{Read}
 
 -- the number in so many bytes, the lowest first
@@ -99,7 +99,7 @@ read found next = record { found = found; next = next }
 -- end, so that a further read finds the same.
 unfoldable pub file_record : List ℕ → ℕ → Read
 file_record file at =
-    if (leb (length file) at) (read End at)
-    (if (ltb last_kind (byte file at)) (read Unknown at)
-    (if (ltb (length file - (at + 1)) (body_length (byte file at))) (read Cut at)
-    (read (Made (call_at (byte file at) file (at + 1))) (at + 1 + body_length (byte file at)))))
+    if (leb (length file) at) (read (Ok None) at)
+    (if (ltb last_kind (byte file at)) (read (Err UnknownKind) at)
+    (if (ltb (length file - (at + 1)) (body_length (byte file at))) (read (Err CutRecord) at)
+    (read (Ok (Some (call_at (byte file at) file (at + 1)))) (at + 1 + body_length (byte file at)))))

@@ -11,11 +11,11 @@ use Rattle.std.proofs.Math.Dec.{leb, leb-suc-suc}
 use Rattle.std.proofs.Math.ListN.{length, get_or, length-append, get_or-append}
 use Rattle.std.proofs.Math.Seq.{get_or-append_seam, get_or-append-add}
 use borrow.Author.Tests.{lt-leb, le-ltb, ltb-false, eqb-false}
+use Rattle.model.specs.declared.Refusal.TheVariants.{UnknownKind, CutRecord}
 use Rattle.model.specs.declared.Call.TheVariants.{Open}
 use Rattle.model.specs.Tests.{if}
 use Rattle.model.proofs.Cases.{either, if-ind}
-use Rattle.files.specs.declared.Found.{Found}
-use Rattle.files.specs.declared.Found.TheVariants.{Unknown, Cut, Made}
+use Rattle.files.specs.Found.{Found, Ok, Err, Some}
 use Rattle.files.specs.Format.{number, last_kind, step_kind, is_wide, slot_bytes, step_length, body_length, plan_at, message_at, act_at}
 use Rattle.files.specs.Format.{step_at, call_at, file_record}
 
@@ -42,7 +42,9 @@ new_hear rest = 9 ∷ widened hear_front rest
 
 -- what a kind and the bytes behind it are read as
 unfoldable pub found_in : ℕ → List ℕ → Found
-found_in kind rest = if (ltb last_kind kind) Unknown (if (ltb (length rest) (body_length kind)) Cut (Made (call_at kind rest 0)))
+found_in kind rest =
+    if (ltb last_kind kind) (Err UnknownKind)
+    (if (ltb (length rest) (body_length kind)) (Err CutRecord) (Ok (Some (call_at kind rest 0))))
 
 -- the call of a step goes by the bytes of its body: these stand in a file from a place on
 module _ (file body : List ℕ) (i m : ℕ) (there : (j : ℕ) → j < m → get_or file (i + j) 0 ≡ get_or body j 0) where

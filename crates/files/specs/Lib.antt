@@ -4,6 +4,7 @@ pub mod Ends
 pub mod Enough
 pub mod Fits
 pub mod Format
+pub mod Found
 pub mod Forms
 pub mod FoundLaws
 pub mod LargeLaws

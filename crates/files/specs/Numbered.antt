@@ -8,8 +8,7 @@ use Rattle.model.specs.declared.Call.TheVariants.{Open, Single, RunOn, Conduct}
 use Rattle.model.specs.Answers.{refusal_number}
 use Rattle.model.specs.Tests.{if}
 use Rattle.model.specs.TurnedAway.{Ground, ◌when◌, unless}
-use Rattle.files.specs.declared.Found.{Found}
-use Rattle.files.specs.declared.Found.TheVariants.{End, Unknown, Cut, Made}
+use Rattle.files.specs.Found.{Found, Ok, Err, None, Some}
 use Rattle.files.specs.Format.{number, byte, last_kind, step_kind, is_wide, slot_bytes, body_length}
 
 -- ---- of each case
@@ -32,17 +31,15 @@ call_values Conduct = []
 
 -- 0: no refusal
 abbrev pub found_number : Found → ℕ
-found_number End = 0
-found_number Unknown = refusal_number UnknownKind
-found_number Cut = refusal_number CutRecord
-found_number (Made a) = 0
+found_number (Ok None) = 0
+found_number (Err why) = refusal_number why
+found_number (Ok (Some a)) = 0
 
 -- the end of the file has none
 abbrev pub found_values : Found → List ℕ
-found_values End = []
-found_values Unknown = []
-found_values Cut = []
-found_values (Made a) = call_values a
+found_values (Ok None) = []
+found_values (Err why) = []
+found_values (Ok (Some a)) = call_values a
 
 -- ---- of a place in a file
 

@@ -14,11 +14,8 @@ use Rattle.tables.specs.Layout.{Tables}
 use Rattle.tables.specs.Calls.{OpenOutcome}
 use Rattle.promises.specs.Order.{first_met, turned_away, call_refusals}
 use Rattle.promises.specs.Refusals.{call_answers}
-use Rattle.files.specs.declared.Found.{Found}
-use Rattle.files.specs.declared.Found.TheVariants.{End, Unknown, Cut, Made}
+use Rattle.files.specs.Found.{Found, Said, Ok, Err, None, Some, run_numbers}
 use Rattle.files.specs.declared.Player.{Player}
-use Rattle.files.specs.declared.Said.{Said}
-use Rattle.files.specs.declared.Said.TheVariants.{Nothing, Stopped, Answered}
 use Rattle.files.specs.Format.{byte, last_kind, body_length, file_record}
 use Rattle.files.specs.Numbered.{record_refusals}
 use Rattle.files.specs.Play.{place_refusals, called_in_place, turned, turn}
@@ -39,16 +36,15 @@ places most p a = refl
 
 -- what a record is refused with; none: it is accepted, or the file has ended
 abbrev pub refusal_said : Said → Option Refusal
-refusal_said Nothing = none
-refusal_said (Stopped why) = just why
-refusal_said (Answered a) = turned_away a
+refusal_said (Ok None) = none
+refusal_said (Err why) = just why
+refusal_said (Ok (Some a)) = turned_away a
 
 -- behind 19 and 20, of a record that makes a call
 abbrev pub call_due : Numbers → Player → Tables → List ℕ → Found → List Ground
-call_due most p t strip End = []
-call_due most p t strip Unknown = []
-call_due most p t strip Cut = []
-call_due most p t strip (Made a) = place_refusals most p a ++ call_refusals p.numbers a t strip
+call_due most p t strip (Ok None) = []
+call_due most p t strip (Err why) = []
+call_due most p t strip (Ok (Some a)) = place_refusals most p a ++ call_refusals (run_numbers p.opened) a t strip
 
 -- refusals that come before those of a result
 before : {A : Type 0} (told : A → Option Refusal) (away : Refusal → A) (good : A) → ((why : Refusal) → told (away why) ≡ just why)
@@ -63,9 +59,9 @@ before told away good refuses (g ∷ gs) hs h = go g.met (before told away good 
     go false below = below
 
 module _ (most : Numbers) (p : Player) (t : Tables) (strip : List ℕ) where
-  call_told : (a : Call) → turned_away (called_in_place most p a t strip).answer ≡ first_met (call_due most p t strip (Made a))
+  call_told : (a : Call) → turned_away (called_in_place most p a t strip).answer ≡ first_met (call_due most p t strip (Ok (Some a)))
   unfolding called_in_place
-  call_told a = before (λ (o : OpenOutcome). turned_away o.answer) _ _ (λ why. refl) (place_refusals most p a) _ (call_answers p.numbers a t strip)
+  call_told a = before (λ (o : OpenOutcome). turned_away o.answer) _ _ (λ why. refl) (place_refusals most p a) _ (call_answers (run_numbers p.opened) a t strip)
 
   pub record_answers : (file : List ℕ) → let found = (file_record file p.at).found in
       refusal_said (turn most file p t strip).said ≡ first_met (record_refusals file p.at ++ call_due most p t strip found)

@@ -1,7 +1,7 @@
 -- A step file is played: "A record of a step file first meets 19, 20, 21", then it counts as the call that it makes.
 use Rattle.std.specs.Prelude.{ℕ, zero, suc, Bool, true, false, not, ◌&&◌, ◌||◌, List, [], ◌∷◌, ltb}
 use Rattle.model.specs.declared.Numbers.{Numbers}
-use Rattle.model.specs.declared.Refusal.TheVariants.{ShortTable, UnknownKind, CutRecord, OutOfPlace}
+use Rattle.model.specs.declared.Refusal.TheVariants.{ShortTable, OutOfPlace}
 use Rattle.model.specs.declared.Call.{Call}
 use Rattle.model.specs.declared.Call.TheVariants.{Open, Single, RunOn, Conduct}
 use Rattle.model.specs.declared.Answer.{Answer}
@@ -12,23 +12,20 @@ use Rattle.model.specs.Limits.{planned, plan_limited}
 use Rattle.model.specs.TurnedAway.{Ground, ◌when◌, unless}
 use Rattle.tables.specs.Layout.{Tables}
 use Rattle.tables.specs.Calls.{OpenOutcome, open_outcome, called}
-use Rattle.files.specs.declared.Found.{Found}
-use Rattle.files.specs.declared.Found.TheVariants.{End, Unknown, Cut, Made}
+use Rattle.files.specs.Found.{Found, Said, Option, Ok, Err, None, Some, is_opened, run_numbers}
 use Rattle.files.specs.declared.Player.{Player}
-use Rattle.files.specs.declared.Said.{Said}
-use Rattle.files.specs.declared.Said.TheVariants.{Nothing, Stopped, Answered}
 use Rattle.files.specs.Format.{file_record}
 
 -- document 01's number and values of what is said: of the file's end 0 and none
 abbrev pub said_number : Said → ℕ
-said_number Nothing = 0
-said_number (Stopped why) = refusal_number why
-said_number (Answered a) = answer_number a
+said_number (Ok None) = 0
+said_number (Err why) = refusal_number why
+said_number (Ok (Some a)) = answer_number a
 
 abbrev pub said_values : Said → List ℕ
-said_values Nothing = []
-said_values (Stopped why) = []
-said_values (Answered a) = answer_values a
+said_values (Ok None) = []
+said_values (Err why) = []
+said_values (Ok (Some a)) = answer_values a
 
 -- what a record comes to: what is said of it, with its number and values, where the player stands then, and everything lent
 pub record Turn : Type 0 where
@@ -57,37 +54,40 @@ too_large most (Single a) = false
 too_large most (RunOn c) = false
 too_large most Conduct = false
 
--- the player behind a record: an accepted opening gives the run's numbers
+-- the run behind an answer: an accepted opening gives its numbers
+abbrev pub opened_by : Answer → Option Numbers → Option Numbers
+opened_by (Refused why) run = run
+opened_by Done run = run
+opened_by (Ran k) run = run
+opened_by (Opened N) run = Some N
+opened_by (Conducted k m) run = run
+
+-- the player behind a record
 abbrev pub moved_on : Player → ℕ → Answer → Player
-moved_on p next (Refused why) = record { at = next; opened = p.opened; numbers = p.numbers }
-moved_on p next Done = record { at = next; opened = p.opened; numbers = p.numbers }
-moved_on p next (Ran k) = record { at = next; opened = p.opened; numbers = p.numbers }
-moved_on p next (Opened N) = record { at = next; opened = true; numbers = N }
-moved_on p next (Conducted k m) = record { at = next; opened = p.opened; numbers = p.numbers }
+moved_on p next a = record { at = next; opened = opened_by a p.opened }
 
 abbrev pub answered : Player → ℕ → OpenOutcome → Turn
-answered p next o = turn_of (Answered o.answer) (moved_on p next o.answer) o.tables o.strip
+answered p next o = turn_of (Ok (Some o.answer)) (moved_on p next o.answer) o.tables o.strip
 
 -- refusal 21, then 2 for an opening that is too large, then the call's own
 abbrev pub place_refusals : Numbers → Player → Call → List Ground
-place_refusals most p a = OutOfPlace when out_of_place p.opened a ∷ ShortTable when too_large most a ∷ []
+place_refusals most p a = OutOfPlace when out_of_place (is_opened p.opened) a ∷ ShortTable when too_large most a ∷ []
 
 unfoldable pub called_in_place : Numbers → Player → Call → Tables → List ℕ → OpenOutcome
-called_in_place most p a t strip = unless (λ why. open_outcome (Refused why) t strip) (place_refusals most p a) (called p.numbers a t strip)
+called_in_place most p a t strip = unless (λ why. open_outcome (Refused why) t strip) (place_refusals most p a) (called (run_numbers p.opened) a t strip)
 
 unfoldable pub turned : Numbers → Player → Tables → List ℕ → ℕ → Found → Turn
-turned most p t strip next End = turn_of Nothing p t strip
-turned most p t strip next Unknown = turn_of (Stopped UnknownKind) p t strip
-turned most p t strip next Cut = turn_of (Stopped CutRecord) p t strip
-turned most p t strip next (Made a) = answered p next (called_in_place most p a t strip)
+turned most p t strip next (Ok None) = turn_of (Ok None) p t strip
+turned most p t strip next (Err why) = turn_of (Err why) p t strip
+turned most p t strip next (Ok (Some a)) = answered p next (called_in_place most p a t strip)
 
 unfoldable pub turn : Numbers → List ℕ → Player → Tables → List ℕ → Turn
 turn most file p t strip = let r = file_record file p.at in turned most p t strip r.next r.found
 
 abbrev pub goes_on : Said → Bool
-goes_on Nothing = false
-goes_on (Stopped why) = false
-goes_on (Answered a) = true
+goes_on (Ok None) = false
+goes_on (Err why) = false
+goes_on (Ok (Some a)) = true
 
 -- one record more, unless the file has ended or reading has stopped
 abbrev pub turn_on : Numbers → List ℕ → Turn → Turn
@@ -100,4 +100,4 @@ play (suc k) most file x = turn_on most file (play k most file x)
 
 -- where playing begins
 abbrev pub begun : Player → Tables → List ℕ → Turn
-begun p t strip = turn_of (Answered Done) p t strip
+begun p t strip = turn_of (Ok (Some Done)) p t strip

@@ -14,15 +14,13 @@ use Rattle.model.specs.Tests.{if}
 use Rattle.model.proofs.Branches.{if-false}
 use Rattle.model.proofs.Cases.{clash, either, if-ind}
 use Rattle.tables.specs.Layout.{Tables}
-use Rattle.files.specs.declared.Found.{Found}
-use Rattle.files.specs.declared.Found.TheVariants.{End, Unknown, Cut, Made}
+use Rattle.files.specs.Found.{Found, Ok, Err, None, Some}
 use Rattle.files.specs.Format.{last_kind, step_kind, is_wide, step_length, body_length, file_record}
 use Rattle.files.specs.Forms.{widened, opening_front, hear_front, new_opening, new_hear, found_in, read_there}
 use Rattle.files.specs.declared.Player.{Player}
-use Rattle.files.specs.Play.{Turn, called_in_place, turned, turn, goes_on, play, begun}
+use Rattle.files.specs.Play.{Turn, turned, turn, goes_on, play, begun}
 use Rattle.files.specs.TurnForms.{SameTurn}
 use Rattle.files.specs.Reported.{line_on, lines, ending, fresh, whole, report}
-use Rattle.files.specs.Ends.{moved_to}
 
 -- record by record; the rest may stay as it is
 pub data Renewed : List ℕ → List ℕ → Type 0 where
@@ -35,7 +33,7 @@ pub data Renewed : List ℕ → List ℕ → Type 0 where
 -- ---- what stands at the start of some bytes
 
 unfoldable pub found_at : List ℕ → Found
-found_at [] = End
+found_at [] = Ok None
 found_at (kind ∷ rest) = found_in kind rest
 
 unfoldable pub record_length : List ℕ → ℕ
@@ -43,10 +41,9 @@ record_length [] = 0
 record_length (kind ∷ rest) = suc (body_length kind)
 
 abbrev pub is_made : Found → Bool
-is_made End = false
-is_made Unknown = false
-is_made Cut = false
-is_made (Made a) = true
+is_made (Ok None) = false
+is_made (Err why) = false
+is_made (Ok (Some a)) = true
 
 pub read_at_rest : (before l : List ℕ) → (file_record (before ++ l) (length before)).found ≡ found_at l
 unfolding found_at file_record if
@@ -171,7 +168,7 @@ stays most file x k h (suc m) l = go (ℕ_discrete k (suc m)) (stays most file x
 
 -- the lines at the end
 pub ending_same : (x y : Turn) → SameTurn x y → ending x ≡ ending y
-ending_same x y e = rw (e.opened, e.numbers, e.tables)
+ending_same x y e = rw (e.opened, e.tables)
 
 module _ (most : Numbers) (old new : List ℕ) (t : Tables) (strip : List ℕ) where
   -- where the two players stand: before bytes of which the ones are the others renewed
@@ -194,10 +191,9 @@ module _ (most : Numbers) (old new : List ℕ) (t : Tables) (strip : List ℕ) w
   made_on : (p : Player) (u : Tables) (st : List ℕ) (next : ℕ) (f : Found) → goes_on (turned most p u st next f).said ≡ true
       → (is_made f ≡ true) × ((turned most p u st next f).player.at ≡ next)
   unfolding turned
-  made_on p u st next End h = clash h
-  made_on p u st next Unknown h = clash h
-  made_on p u st next Cut h = clash h
-  made_on p u st next (Made a) h = (refl, moved_to p next (called_in_place most p a u st).answer)
+  made_on p u st next (Ok None) h = clash h
+  made_on p u st next (Err why) h = clash h
+  made_on p u st next (Ok (Some a)) h = (refl, refl)
 
   -- where a player stands behind a record
   pub place_behind : (file before rest : List ℕ) (p : Player) (u : Tables) (st : List ℕ) → file ≡ before ++ rest → p.at ≡ length before

@@ -4,15 +4,8 @@
 
 use model::{Answer, Call, Numbers, Refusal};
 
-#[derive(Clone, Copy)]
-pub enum Found {
-    End,
-    // Refusal 19.
-    Unknown,
-    // Refusal 20.
-    Cut,
-    Made(Call),
-}
+// The call of a record, none at the end of the file; refusal 19 or 20.
+pub type Found = Result<Option<Call>, Refusal>;
 
 #[derive(Clone, Copy)]
 pub struct Read {
@@ -20,25 +13,25 @@ pub struct Read {
     pub next: usize,
 }
 
-// Where the player stands: its place in the step file, and the numbers of the run that was opened.
+// Where the player stands: its place in the step file, and the numbers of the run, once one was opened.
 #[derive(Clone, Copy)]
 pub struct Player {
     pub at: usize,
-    pub opened: bool,
-    pub numbers: Numbers,
+    pub opened: Option<Numbers>,
 }
 
-#[derive(Clone, Copy)]
-pub enum Said {
-    // The file has ended.
-    Nothing,
-    // Reading stops with refusal 19 or 20.
-    Stopped(Refusal),
-    Answered(Answer),
-}
+// The answer to a record, none where the file has ended; reading stops with refusal 19 or 20.
+pub type Said = Result<Option<Answer>, Refusal>;
 
 #[derive(Clone, Copy)]
 pub struct Played {
     pub said: Said,
     pub player: Player,
+}
+
+// The lent buffer of a report, and how many bytes of it are written.
+#[derive(Drop)]
+pub struct Report<'a> {
+    pub bytes: &'a mut [u8],
+    pub written: usize,
 }

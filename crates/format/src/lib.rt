@@ -2,174 +2,154 @@
 #![tactic(auto)]
 
 ghost use Rattle.std.specs.Prelude.{◌≡◌, ◌+◌, ◌≤◌, length};
-ghost use Rattle.files.specs.Format.{number, step_kind, is_wide, slot_bytes, step_length, plan_at, message_at, act_at, step_at, file_record};
+ghost use Rattle.files.specs.Format.{number, is_wide, slot_bytes, body_length, plan_at, message_at, call_at, file_record};
 ghost use Rattle.files.specs.Numbered.{found_number, found_values, record_number, record_values};
+ghost use Rattle.format.specs.Kinds.{kind_number, Known, staying};
 
 pub use files::{Found, Read};
-use model::{Act, Call, Message, Numbers, PhaseIndex, Plan, ReplicaId, SlotIndex, Step};
+use model::{Act, Call, Message, Numbers, PhaseIndex, Plan, Refusal, ReplicaId, SlotIndex, Step};
 
-// The kinds of records are 0 to this.
-const LAST_KIND: u8 = 9;
-
-fn size(x: u8) -> usize
-    ensures { result ≡ x }
-{
-    x as usize
+// The kinds of records. Document 02: "A new opening, kind 8, and a new hear, kind 9, carry the slot count or slot in two bytes".
+#[derive(Clone, Copy)]
+enum Kind {
+    Opening,
+    Submit,
+    Relay,
+    Begin,
+    Hear,
+    Advance,
+    Crash,
+    RunOn,
+    WideOpening,
+    WideHear,
 }
 
-fn number_of_two(file: &[u8], i: usize) -> usize
-    requires { i + 2 ≤ length file.now }
-    ensures { result ≡ number 2 file.now i }
-{
-    let low = size(file[i]);
-    let high = size(file[i + 1]);
-    low + 256 * high
-}
+impl TryFrom<u8> for Kind {
+    type Error = Refusal;
 
-fn number_of_four(file: &[u8], i: usize) -> u64
-    requires { i + 4 ≤ length file.now }
-    ensures { result ≡ number 4 file.now i }
-{
-    let low = number_of_two(file, i) as u64;
-    let high = number_of_two(file, i + 2) as u64;
-    low + 65536 * high
-}
+    ghost use Rattle.format.specs.Kinds.{Known};
 
-fn number_of_eight(file: &[u8], i: usize) -> u64
-    requires { i + 8 ≤ length file.now }
-    ensures { result ≡ number 8 file.now i }
-{
-    let low = number_of_four(file, i);
-    let high = number_of_four(file, i + 4);
-    low + 4294967296 * high
-}
+    ghost try_from_gives = { λ k kind. Known k kind };
 
-// The step that a kind is a form of: kinds 8 and 9 are an opening and a hear.
-fn step_kind(kind: u8) -> u8
-    ensures { result ≡ step_kind kind }
-{
-    if kind == 8 {
-        return 0;
-    }
-    if kind == 9 {
-        return 4;
-    }
-    kind
-}
-
-// Whether a kind has two bytes for a slot count or slot.
-fn is_wide(kind: u8) -> bool
-    ensures { result ≡ is_wide kind }
-{
-    7 < kind
-}
-
-fn slot_bytes(wide: bool) -> usize
-    ensures { result ≡ slot_bytes wide }
-{
-    if wide {
-        return 2;
-    }
-    1
-}
-
-fn step_length(step: u8, wide: bool) -> usize
-    ensures { result ≡ step_length step wide }
-{
-    let slot = slot_bytes(wide);
-    if step == 0 {
-        return slot + 7;
-    }
-    if step == 1 {
-        return 9;
-    }
-    if step == 2 {
-        return 9;
-    }
-    if step == 4 {
-        return slot + 4;
-    }
-    1
-}
-
-// A slot count or slot.
-fn slot_at(wide: bool, file: &[u8], i: usize) -> usize
-    requires { i + slot_bytes wide ≤ length file.now }
-    ensures { result ≡ number (slot_bytes wide) file.now i }
-{
-    if wide {
-        return number_of_two(file, i);
-    }
-    size(file[i])
-}
-
-fn plan_at(wide: bool, file: &[u8], i: usize) -> Plan
-    requires { i + (slot_bytes wide + 7) ≤ length file.now }
-    ensures { result ≡ plan_at wide file.now i }
-{
-    let slot = slot_bytes(wide);
-    let numbers = Numbers {
-        n: size(file[i]),
-        f: size(file[i + 1]),
-        slots: slot_at(wide, file, i + 2),
-        phases: size(file[i + 2 + slot]),
-        room: number_of_two(file, i + 3 + slot),
-    };
-    Plan {
-        numbers,
-        start: number_of_two(file, i + 5 + slot),
+    fn try_from(k: u8) -> Result<Kind, Refusal> {
+        match k {
+            0 => Ok(Kind::Opening),
+            1 => Ok(Kind::Submit),
+            2 => Ok(Kind::Relay),
+            3 => Ok(Kind::Begin),
+            4 => Ok(Kind::Hear),
+            5 => Ok(Kind::Advance),
+            6 => Ok(Kind::Crash),
+            7 => Ok(Kind::RunOn),
+            8 => Ok(Kind::WideOpening),
+            9 => Ok(Kind::WideHear),
+            _ => Err(Refusal::UnknownKind),
+        }
     }
 }
 
-// What follows the receiver of a hear.
-fn message_at(wide: bool, file: &[u8], i: usize) -> Message
-    requires { i + (slot_bytes wide + 3) ≤ length file.now }
-    ensures { result ≡ message_at wide file.now i }
+// The number in so many bytes, the lowest first.
+fn number(k: usize, file: &[u8], i: usize) -> u64
+    requires { (k ≤ 8) × (i + k ≤ length file.now) }
+    ensures { result ≡ number k file.now i }
 {
-    let slot = slot_bytes(wide);
-    Message {
-        sender: ReplicaId(size(file[i])),
-        sort: size(file[i + 1]),
-        slot: SlotIndex(slot_at(wide, file, i + 2)),
-        phase: PhaseIndex(size(file[i + 2 + slot])),
+    let mut bytes = [0; 8];
+    bytes[..k].copy_from_slice(&file[i..i + k]);
+    u64::from_le_bytes(bytes)
+}
+
+impl Kind {
+    // How many bytes a slot count or slot has.
+    fn slot_bytes(self) -> usize
+        ensures { result ≡ slot_bytes (is_wide (kind_number self)) }
+    {
+        match self {
+            Kind::WideHear | Kind::WideOpening => 2,
+            _ => 1,
+        }
+    }
+
+    fn body_length(self) -> usize
+        ensures { result ≡ body_length (kind_number self) }
+    {
+        match self {
+            Kind::Opening | Kind::WideOpening => self.slot_bytes() + 7,
+            Kind::Submit | Kind::Relay => 9,
+            Kind::Hear | Kind::WideHear => self.slot_bytes() + 4,
+            _ => 1,
+        }
+    }
+
+    fn plan_at(self, file: &[u8], i: usize) -> Plan
+        requires { i + (slot_bytes (is_wide (kind_number self)) + 7) ≤ length file.now }
+        ensures { result ≡ plan_at (is_wide (kind_number self)) file.now i }
+    {
+        let slot = self.slot_bytes();
+        let numbers = Numbers {
+            n: usize::from(file[i]),
+            f: usize::from(file[i + 1]),
+            slots: number(slot, file, i + 2) as usize,
+            phases: usize::from(file[i + 2 + slot]),
+            room: number(2, file, i + 3 + slot) as usize,
+        };
+        Plan {
+            numbers,
+            start: number(2, file, i + 5 + slot) as usize,
+        }
+    }
+
+    // What follows the receiver of a hear.
+    fn message_at(self, file: &[u8], i: usize) -> Message
+        requires { i + (slot_bytes (is_wide (kind_number self)) + 3) ≤ length file.now }
+        ensures { result ≡ message_at (is_wide (kind_number self)) file.now i }
+    {
+        let slot = self.slot_bytes();
+        Message {
+            sender: ReplicaId(usize::from(file[i])),
+            sort: usize::from(file[i + 1]),
+            slot: SlotIndex(number(slot, file, i + 2) as usize),
+            phase: PhaseIndex(usize::from(file[i + 2 + slot])),
+        }
+    }
+
+    fn call_at(self, file: &[u8], i: usize) -> Call
+        requires { i + body_length (kind_number self) ≤ length file.now }
+        ensures { result ≡ call_at (kind_number self) file.now i }
+    {
+        let who = ReplicaId(usize::from(file[i]));
+        let act = match self {
+            Kind::Opening | Kind::WideOpening => return Call::Open(self.plan_at(file, i)),
+            Kind::RunOn => return Call::RunOn(who),
+            Kind::Submit => Act::Submit(number(8, file, i + 1)),
+            Kind::Relay => Act::Relay(number(8, file, i + 1)),
+            Kind::Begin => Act::Begin,
+            Kind::Hear | Kind::WideHear => Act::Hear(self.message_at(file, i + 1)),
+            Kind::Advance => Act::Advance,
+            Kind::Crash => Act::Crash,
+        };
+        Call::Single(Step { who, act })
     }
 }
 
-fn act_at(step: u8, wide: bool, file: &[u8], i: usize) -> Act
-    requires { i + step_length step wide ≤ length file.now }
-    ensures { result ≡ act_at step wide file.now i }
+// Where reading does not stop.
+fn read_on(file: &[u8], at: usize) -> Result<Read, Refusal>
+    ensures { staying at result ≡ file_record file.now at }
 {
-    if step == 1 {
-        return Act::Submit(number_of_eight(file, i + 1));
+    if file.len() <= at {
+        return Ok(Read {
+            found: Ok(None),
+            next: at,
+        });
     }
-    if step == 2 {
-        return Act::Relay(number_of_eight(file, i + 1));
+    let kind = Kind::try_from(file[at])?;
+    let body = kind.body_length();
+    if file.len() - (at + 1) < body {
+        return Err(Refusal::CutRecord);
     }
-    if step == 3 {
-        return Act::Begin;
-    }
-    if step == 4 {
-        return Act::Hear(message_at(wide, file, i + 1));
-    }
-    if step == 5 {
-        return Act::Advance;
-    }
-    Act::Crash
-}
-
-fn step_at(step: u8, wide: bool, file: &[u8], i: usize) -> Call
-    requires { i + step_length step wide ≤ length file.now }
-    ensures { result ≡ step_at step wide file.now i }
-{
-    if step == 0 {
-        return Call::Open(plan_at(wide, file, i));
-    }
-    let who = ReplicaId(size(file[i]));
-    if step == 7 {
-        return Call::RunOn(who);
-    }
-    let act = act_at(step, wide, file, i);
-    Call::Single(Step { who, act })
+    Ok(Read {
+        found: Ok(Some(kind.call_at(file, at + 1))),
+        next: at + 1 + body,
+    })
 }
 
 // For every file and place.
@@ -177,31 +157,11 @@ pub fn file_record(file: &[u8], at: usize) -> Read
     ensures { let l = file.now in
         (result ≡ file_record l at) × (found_number result.found ≡ record_number l at) × (found_values result.found ≡ record_values l at) }
 {
-    if file.len() <= at {
-        return Read {
-            found: Found::End,
+    match read_on(file, at) {
+        Ok(read) => read,
+        Err(why) => Read {
+            found: Err(why),
             next: at,
-        };
-    }
-    let kind = file[at];
-    if LAST_KIND < kind {
-        return Read {
-            found: Found::Unknown,
-            next: at,
-        };
-    }
-    let step = step_kind(kind);
-    let wide = is_wide(kind);
-    let body = step_length(step, wide);
-    if file.len() - (at + 1) < body {
-        return Read {
-            found: Found::Cut,
-            next: at,
-        };
-    }
-    let call = step_at(step, wide, file, at + 1);
-    Read {
-        found: Found::Made(call),
-        next: at + 1 + body,
+        },
     }
 }

@@ -2,24 +2,28 @@
 use mathlib.Core.Path.{◌≡◌, refl, sym, ◌∙◌, ap, ap₂, subst}
 use mathlib.Core.Bool.{Bool, true, false, not, ◌&&◌, ◌||◌}
 use mathlib.Core.List.{List, [], ◌∷◌}
-use mathlib.Core.Logic.{◌≢◌, ⊎_elim}
-use Prim.Native.Nat.{ℕ, zero, suc, ◌+◌, ◌^◌, ◌<◌, ◌≤◌}
+use mathlib.Core.Logic.{◌≢◌}
+use Prim.Native.Nat.{ℕ, zero, suc, ◌+◌, ◌-◌, ◌^◌, ◌<◌, ◌≤◌}
 use native.Mathlib.Omega.{arith}
-use native.Mathlib.Decide.{ℕ_discrete}
 use native.Mathlib.Numerals.{add-one}
 use lib.Dec.{leb, ltb, eqb, leb-suc-suc}
 use lib.ListN.{length, get_or, set, take, drop}
 use lib.Seq.{drop-cons, get_or-take, length-take-le, drop-length}
+use Rattle.std.specs.List.{slice_range, AllWithin, HoldsAt}
+use Rattle.std.specs.Option.{MatchOption, option_map_or}
+use Rattle.std.specs.declared.option.Option.{Option}
+use Rattle.std.specs.declared.option.Option.TheVariants.{None, Some}
+use Rattle.std.proofs.lemmas.List.{get_or-drop, length-drop}
 use borrow.Author.Tests.{eq-eqb, ne_eqb, eqb-false, ltb-true, ltb-false, lt-ltb, le-ltb}
 use Rattle.model.specs.declared.Numbers.{Numbers}
 use Rattle.model.specs.Tests.{if, some, listed}
-use Rattle.model.proofs.Branches.{told, if-true, if-false}
-use Rattle.model.proofs.Cases.{clash, either, if-ind}
-use Rattle.tables.specs.Layout.{has_bit, with_bit, known_cell, known_in, holders_base}
+use Rattle.model.proofs.Branches.{if-true, if-false}
+use Rattle.model.proofs.Cases.{either, if-ind}
+use Rattle.tables.specs.Layout.{with_bit, known_cell, known_in, holders_base}
 use Rattle.tables.specs.View.{held_from}
 use Rattle.tables.specs.Write.{place_in, orders_held, words_held}
-use Rattle.model.proofs.Counting.{any_more, any_here, any_nowhere}
-use Rattle.known.specs.Room.{Room, Storable, Absent, FirstPlace}
+use Rattle.model.proofs.Counting.{any_nowhere}
+use Rattle.known.specs.Room.{Room, Absent, FirstPlace}
 
 -- the known tags stand in their memory
 pub in_tags : {N : Numbers} {ws os : List ℕ} → Room N ws os → known_in ws ≤ length os
@@ -55,17 +59,50 @@ not_before x (y ∷ ys) (suc j) h = let l = (past _ h).1 in not_before x ys j (o
 
 -- ---- the search for a cell
 
--- no cell is looked at yet
-pub absent_none : (cells : List ℕ) (x a : ℕ) → Absent cells x a a
-absent_none cells x a = record { apart = λ j h l. absurd (omega arith) }
+module _ (cells : List ℕ) (a b : ℕ) where
+  -- the cells from a to b as a list of their own: how many, and each
+  pub part_count : a ≤ b → b ≤ length cells → length (slice_range cells a b) ≡ b - a
+  part_count low long = length-take-le (b - a) (drop a cells) (omega (arith, length-drop a cells))
 
--- one cell more does not have it
-pub absent_more : {cells : List ℕ} {x a b : ℕ} → Absent cells x a b → get_or cells b 0 ≢ x → Absent cells x a (b + 1)
-absent_more {cells} {x} {a} {b} none ne = record { apart = λ j h l. go j h l (ℕ_discrete j b) }
-  where
-    go : (j : ℕ) → a ≤ j → j < b + 1 → Dec (j ≡ b) → get_or cells j 0 ≢ x
-    go j h l (yes e) = subst (λ (j : ℕ). get_or cells j 0 ≢ x) (sym e) ne
-    go j h l (no other) = none.apart j h (omega arith)
+  pub part_cell : (i : ℕ) → i < b - a → get_or (slice_range cells a b) i 0 ≡ get_or cells (a + i) 0
+  part_cell i l = get_or-take (b - a) (drop a cells) i 0 l ∙ get_or-drop a cells i 0
+
+module _ (cells : List ℕ) (x a b : ℕ) where
+  abbrev part : List ℕ
+  part = slice_range cells a b
+
+  -- what `position` says of the cells from a to b
+  abbrev Position : Option ℕ → Type 0
+  Position o = MatchOption o (AllWithin (λ y. y ≢ x) part 0 (length part))
+      (λ i. (i < length part) × HoldsAt (λ y. y ≡ x) part i × AllWithin (λ y. y ≢ x) part 0 i)
+
+  -- it is the first of them that has x
+  pub cell_found : (o : Option ℕ) {r : ℕ} → a ≤ b → b ≤ length cells → Position o → r ≡ option_map_or (λ i. a + i) o b → FirstPlace cells x a b r
+  cell_found o low long found e = subst (FirstPlace cells x a b) (sym e) (go o found)
+    where
+      count : length part ≡ b - a
+      count = part_count cells a b low long
+
+      apart_to : (n : ℕ) → n ≤ b - a → AllWithin (λ y. y ≢ x) part 0 n → Absent cells x a (a + n)
+      apart_to n few apart = record {
+        apart = λ j h l.
+            let at : a + (j - a) ≡ j = omega arith in
+            subst (λ (k : ℕ). get_or cells k 0 ≢ x) at (rw (← part_cell cells a b (j - a) (omega arith)) (apart (j - a) 0 (omega arith) (omega arith)));
+      }
+
+      go : (o : Option ℕ) → Position o → FirstPlace cells x a b (option_map_or (λ i. a + i) o b)
+      go None apart = let end : a + (b - a) ≡ b = omega arith in record {
+        from = low;
+        to = omega arith;
+        has = λ h. absurd (omega arith);
+        absent = subst (Absent cells x a) end (apart_to (b - a) (omega arith) (rw count at apart));
+      }
+      go (Some i) (inside, has, before) = let short = count in record {
+        from = omega arith;
+        to = omega arith;
+        has = λ h. sym (part_cell cells a b i (omega arith)) ∙ has 0;
+        absent = apart_to i (omega arith) before;
+      }
 
 -- two stretches one behind the other
 pub absent_both : {cells : List ℕ} {x a b c : ℕ} → Absent cells x a b → Absent cells x b c → Absent cells x a c
@@ -134,18 +171,6 @@ module _ (ts : List ℕ) (k : ℕ) where
             let inside = rw (length-take-le k ts l) at (place_within x (take k ts)) in
             (omega arith, any_nowhere i _ (λ j h. rw (sym (get_or-take k ts j 0 (omega arith)), not_before x (take k ts) j (omega arith))))
 
-        -- a turn of the loop: not at this place either
-        pub held_later : {r : Bool} → r ≡ (eqb (get_or ts i 0) x && has_bit (get_or ws (base + i) 0) c) → r ≡ false
-            → held_from base i ts ws c x ≡ false → held_from base (i + 1) ts ws c x ≡ false
-        unfolding held_from
-        held_later e q h = any_more i _ ∙ ap₂ ◌||◌ (told e q) h
-
-        -- it is held at this place
-        pub held_here : {r : Bool} → i < k → r ≡ (eqb (get_or ts i 0) x && has_bit (get_or ws (base + i) 0) c) → r ≡ true
-            → true ≡ held_from base k ts ws c x
-        unfolding held_from
-        held_here h e q = sym (any_here k _ i h (told e q))
-
       -- ---- what holding it stores
 
       module _ {i : ℕ} (place : i ≡ place_in x (take k ts)) where
@@ -157,23 +182,11 @@ module _ (ts : List ℕ) (k : ℕ) where
         is_new : k ≤ i → listed x (take k ts) ≡ false
         is_new h = sym (known_place place) ∙ le-ltb i k h
 
-        -- and then there is room for it
-        pub room_left : (N : Numbers) → k ≤ i → Storable N x k ts → k < N.room
-        room_left N h s = ⊎_elim (λ e. clash (sym (is_new h) ∙ e)) (λ l. l) s
-
 -- ---- what holding a tag stores, by the base, the count and the place as the code has found them
 module _ (N : Numbers) (ws os : List ℕ) (room : Room N ws os) {base k : ℕ} (from : base ≡ holders_base N) (count : k ≡ known_in ws) (x : ℕ) {i : ℕ}
     (place : i ≡ place_in x (take k os)) where
   few : k ≤ length os
   few = let l = in_tags room in omega arith
-
-  -- the places of a new tag are there
-  pub new_there : k ≤ i → Storable N x (known_in ws) os → (k < length os) × (base + k < length ws)
-  new_there h s =
-      let l = room_left os k few x place N h (subst (λ (j : ℕ). Storable N x j os) (sym count) s) in
-      let a = room.orders in
-      let b = room.words in
-      (omega arith, omega arith)
 
   module _ (c : ℕ) where
     -- replica c holds the tag

@@ -1,8 +1,9 @@
-// The known tags and their holders. Inner functions for the crates above; no call of the library is here.
+// The known tags and their holders. Inner functions for the crates above; no call of the library is here. Here and in the crate orders
+// a function takes the two tables that it reads, and not the whole memory: so its contract holds whatever stands in the ballots.
 #![tactic(auto)]
 
-ghost use Rattle.std.specs.Prelude.{◌≡◌, ◌&&◌, ◌+◌, ◌<◌, ◌≤◌, eqb, length, take};
-ghost use Rattle.tables.specs.Layout.{mask_bits, has_bit, known_in};
+ghost use Rattle.std.specs.Prelude.{◌≡◌, ◌+◌, ◌<◌, ◌≤◌, length, take};
+ghost use Rattle.tables.specs.Layout.{mask_bits, known_in};
 ghost use Rattle.tables.specs.View.{held_from};
 ghost use Rattle.tables.specs.Write.{place_in, orders_held, words_held};
 ghost use Rattle.known.specs.Room.{Room, Storable, FirstPlace};
@@ -13,26 +14,16 @@ use layout::holders_base;
 use model::Numbers;
 use tables::KNOWN_CELL;
 
-// "Tag 0 is no order".
-pub fn is_blank(x: u64) -> bool
-    ensures { result ≡ eqb x 0 }
-{
-    x == 0
-}
-
 // The first cell that has x, of those from a place on up to another, or that other.
+#[inline(always)]
 fn next_place(x: u64, from: usize, to: usize, cells: &[u64]) -> usize
     requires { (from ≤ to) × (to ≤ length cells.now) }
     ensures { FirstPlace cells.now x from to result }
 {
-    let mut i = from;
-    while i < to {
-        if cells[i] == x {
-            return i;
-        }
-        i += 1;
-    }
-    i
+    cells[from..to]
+        .iter()
+        .position(|cell| *cell == x)
+        .map_or(to, |i| from + i)
 }
 
 // The same, four cells in a turn: submit, relay and begin spend most of their time here.
@@ -40,26 +31,15 @@ pub fn first_place(x: u64, from: usize, to: usize, cells: &[u64]) -> usize
     requires { (from ≤ to) × (to ≤ length cells.now) }
     ensures { FirstPlace cells.now x from to result }
 {
-    let mut i = from;
-    while i + 4 <= to {
-        let second = i + 1;
-        let third = second + 1;
-        let fourth = third + 1;
-        if cells[i] == x {
-            return i;
+    let turns = (to - from) / 4;
+    for turn in 0..turns {
+        let i = from + 4 * turn;
+        let place = next_place(x, i, i + 4, cells);
+        if place < i + 4 {
+            return place;
         }
-        if cells[second] == x {
-            return second;
-        }
-        if cells[third] == x {
-            return third;
-        }
-        if cells[fourth] == x {
-            return fourth;
-        }
-        i = fourth + 1;
     }
-    next_place(x, i, to, cells)
+    next_place(x, from + 4 * turns, to, cells)
 }
 
 // The first place of a tag among the known ones, or their count.
@@ -68,17 +48,6 @@ pub fn tag_place(x: u64, known: usize, tags: &[u64]) -> usize
     ensures { result ≡ place_in x (take known tags.now) }
 {
     first_place(x, 0, known, tags)
-}
-
-// Whether a place that has this tag and these holders has x, held by `who`.
-fn holds_here(who: usize, x: u64, tag: u64, mask: u16) -> bool
-    requires { who < mask_bits }
-    ensures { result ≡ (eqb tag x && has_bit mask who) }
-{
-    if tag != x {
-        return false;
-    }
-    has_bit(mask, who)
 }
 
 // Whether `who` holds the tag at its first place or a later one that has it: a damaged table may have a tag twice.
@@ -96,14 +65,7 @@ pub fn held_from(
         × (first ≡ place_in x (take known orders.now)) }
     ensures { result ≡ held_from base known orders.now words.now who x }
 {
-    let mut i = first;
-    while i < known {
-        if holds_here(who, x, orders[i], words[base + i]) {
-            return true;
-        }
-        i += 1;
-    }
-    false
+    (first..known).any(|i| orders[i] == x && has_bit(words[base + i], who))
 }
 
 // `who` holds the tag from now on.

@@ -11,14 +11,12 @@ use Rattle.model.specs.declared.Numbers.{Numbers}
 use Rattle.model.specs.declared.Sort.{Sort}
 use Rattle.model.specs.Limits.{most_phases}
 use Rattle.model.specs.Rules.{phase_in}
-use Rattle.tables.specs.Layout.{row, slot_row, message_rows, ballot_rows, heard_base, heard_cell}
-use Rattle.tables.specs.Layout.{proposals_base, proposal_cell, logs_base, ballot_cell}
-use Rattle.tables.specs.Bounds.{Bounds, most_cells, ballot_rows_few, ballots_few, message_rows_few, words_few, orders_few}
-use Rattle.tables.specs.Addresses.{Within, phase_low, row_low, spot_in, proposal_in, log_in_range}
+use Rattle.tables.specs.Layout.{row, slot_row, message_rows, ballot_rows, heard_base}
+use Rattle.tables.specs.Bounds.{Bounds, most_cells, ballot_rows_few, ballots_few, message_rows_few, words_few}
+use Rattle.tables.specs.Addresses.{Within, phase_low, row_low, spot_in}
 
 -- every number on the way to (s * rows + q) * n + d, and from there to the cell behind a base
 record Way (base rows n s q d : ℕ) : Type 0 where
-  pub slot : Fits w64 (s * rows)
   pub line : Fits w64 (s * rows + q)
   pub block : Fits w64 ((s * rows + q) * n)
   pub cell : Fits w64 ((s * rows + q) * n + d)
@@ -29,7 +27,7 @@ way : (base slots rows n s q d : ℕ) → s < slots → q < rows → d < n → s
 way base slots rows n s q d hs hq hd a b =
     let l : s * rows + q < slots * rows = digits_lt hs hq in
     let c = spot_in slots rows n s q d hs hq hd in
-    record { slot = omega arith; line = omega arith; block = omega arith; cell = omega arith; end = omega arith }
+    record { line = omega arith; block = omega arith; cell = omega arith; end = omega arith }
 
 module _ (N : Numbers) {so : Sort} {s p d : ℕ} (m : Bounds N × Within N so s p d) where
   -- to a heard mark, by its parts as they were computed
@@ -38,9 +36,6 @@ module _ (N : Numbers) {so : Sort} {s p d : ℕ} (m : Bounds N × Within N so s 
     to_mark = let w = m.1 in
         rw (eb, el, ek, eq) (way _ N.slots _ N.n s (row so p) d w.slot (row_low N so p w.phase) w.sender
         (le_trans (message_rows_few N m.0) (omega arith)) (words_few N m.0))
-
-    pub mark_slot : Fits w64 (l * k)
-    mark_slot = to_mark.slot
 
     pub mark_line : Fits w64 (l * k + q)
     mark_line = to_mark.line
@@ -54,9 +49,6 @@ module _ (N : Numbers) {so : Sort} {s p d : ℕ} (m : Bounds N × Within N so s 
     pub mark_end : Fits w64 (b + ((l * k + q) * N.n + d))
     mark_end = to_mark.end
 
-    pub heard_there : b + ((l * k + q) * N.n + d) ≡ heard_cell N so s p d
-    heard_there = rw (eb, el, ek, eq)
-
   -- to a state or vote
   module _ {l k r q : ℕ} (el : l ≡ slot_row N s) (ek : k ≡ ballot_rows N) (er : r ≡ row so p) (eq : q ≡ r - 2) where
     to_ballot : Way 0 k N.n l q d
@@ -67,9 +59,6 @@ module _ (N : Numbers) {so : Sort} {s p d : ℕ} (m : Bounds N × Within N so s 
         rw (eq, er, el, ek) (way 0 N.slots _ N.n s (row so p - 2) d w.slot (omega arith) w.sender
         (le_trans (ballot_rows_few N m.0) (omega arith)) (omega arith))
 
-    pub ballot_slot : Fits w64 (l * k)
-    ballot_slot = to_ballot.slot
-
     pub ballot_line : Fits w64 (l * k + q)
     ballot_line = to_ballot.line
 
@@ -78,53 +67,6 @@ module _ (N : Numbers) {so : Sort} {s p d : ℕ} (m : Bounds N × Within N so s 
 
     pub ballot_end : Fits w64 ((l * k + q) * N.n + d)
     ballot_end = to_ballot.cell
-
-    pub ballot_there : (l * k + q) * N.n + d ≡ ballot_cell N so s p d
-    ballot_there = rw (eq, er, el, ek)
-
--- every number on the way to base + (q * n + d)
-record Step (base n q d : ℕ) : Type 0 where
-  pub line : Fits w64 (q * n)
-  pub cell : Fits w64 (q * n + d)
-  pub end : Fits w64 (base + (q * n + d))
-
-module _ (N : Numbers) (few : Bounds N) where
-  -- to a proposal
-  module _ {s d : ℕ} (hs : s < N.slots) (hd : d < N.n) {b l : ℕ} (eb : b ≡ proposals_base N) (el : l ≡ slot_row N s) where
-    to_proposal : Step b N.n l d
-    to_proposal =
-        let h = proposal_in N s d hs hd in
-        let k = orders_few N few in
-        rw (eb, el) (record { line = omega arith; cell = omega arith; end = omega arith })
-
-    pub proposal_line : Fits w64 (l * N.n)
-    proposal_line = to_proposal.line
-
-    pub proposal_spot : Fits w64 (l * N.n + d)
-    proposal_spot = to_proposal.cell
-
-    pub proposal_end : Fits w64 (b + (l * N.n + d))
-    proposal_end = to_proposal.end
-
-    pub proposal_there : b + (l * N.n + d) ≡ proposal_cell N s d
-    proposal_there = rw (eb, el)
-
-  -- to an entry of a log
-  module _ {c s : ℕ} (hc : c < N.n) (hs : s < N.slots) {b l : ℕ} (eb : b ≡ logs_base N) (el : l ≡ slot_row N s) where
-    to_entry : Step b N.slots c l
-    to_entry =
-        let h = log_in_range N c s hc hs in
-        let k = orders_few N few in
-        rw (eb, el) (record { line = omega arith; cell = omega arith; end = omega arith })
-
-    pub entry_line : Fits w64 (c * N.slots)
-    entry_line = to_entry.line
-
-    pub entry_spot : Fits w64 (c * N.slots + l)
-    entry_spot = to_entry.cell
-
-    pub entry_end : Fits w64 (b + (c * N.slots + l))
-    entry_end = to_entry.end
 
 -- a phase is small
 pub row_small : (N : Numbers) → Bounds N → (so : Sort) (p : ℕ) → phase_in N so p ≡ true → p ≤ most_phases

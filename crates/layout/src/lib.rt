@@ -2,17 +2,16 @@
 // another row of a slot or a window of slots changes this file and no other. Inner code: no calls of the library.
 #![tactic(auto)]
 
-ghost use Rattle.std.specs.Prelude.{◌≡◌, true, ◌<◌, ◌-◌};
-ghost use Rattle.model.specs.Limits.{most_replicas};
+ghost use Rattle.std.specs.Prelude.{◌≡◌, true, ◌<◌};
 ghost use Rattle.model.specs.Rules.{phase_in};
 ghost use Rattle.tables.specs.Layout.{mask_bits, record_cell, record_end, row, slot_end, has_row, slot_row, message_rows};
 ghost use Rattle.tables.specs.Layout.{ballot_rows, holders_base, heard_base, words_need, heard_cell, proposals_base};
 ghost use Rattle.tables.specs.Layout.{logs_base, orders_need, proposal_cell, log_cell, ballot_cell, ballots_need};
 ghost use Rattle.tables.specs.Bounds.{Bounds};
-ghost use Rattle.tables.specs.Addresses.{Within};
+ghost use Rattle.tables.specs.Addresses.{Addressed};
 
 use model::{Numbers, Sort};
-use tables::{HEADER_WORDS, RECORD_WORDS};
+use tables::{Address, HEADER_WORDS, RECORD_WORDS};
 
 // ---- slots and their rows
 
@@ -29,12 +28,14 @@ pub fn has_row(numbers: Numbers, slot: usize) -> bool
     slot < slot_end(numbers)
 }
 
+#[inline(always)]
 fn slot_row(numbers: Numbers, slot: usize) -> usize
     ensures { result ≡ slot_row numbers slot }
 {
     slot
 }
 
+#[inline(always)]
 fn message_rows(numbers: Numbers) -> usize
     requires { Bounds numbers }
     ensures { result ≡ message_rows numbers }
@@ -42,6 +43,7 @@ fn message_rows(numbers: Numbers) -> usize
     2 * numbers.phases + 2
 }
 
+#[inline(always)]
 fn ballot_rows(numbers: Numbers) -> usize
     requires { Bounds numbers }
     ensures { result ≡ ballot_rows numbers }
@@ -50,6 +52,8 @@ fn ballot_rows(numbers: Numbers) -> usize
 }
 
 // The row of a message among those of its slot.
+#[tactic(auto, using(crate::proofs::PlaceLaws::row_small), unfolding(tables::specs::Layout::row))]
+#[inline(always)]
 fn row_of(numbers: Numbers, sort: Sort, phase: usize) -> usize
     requires { (Bounds numbers) × (phase_in numbers sort phase ≡ true) }
     ensures { result ≡ row sort phase }
@@ -60,15 +64,6 @@ fn row_of(numbers: Numbers, sort: Sort, phase: usize) -> usize
         Sort::Votes => 2 * phase + 1,
         Sort::Notices => 1,
     }
-}
-
-fn less_two(x: usize) -> usize
-    ensures { result ≡ x - 2 }
-{
-    if x < 2 {
-        return 0;
-    }
-    x - 2
 }
 
 // ---- words: header, records, holders, heard
@@ -87,6 +82,7 @@ pub fn record_past(c: usize) -> usize
     RECORD_WORDS * c + (HEADER_WORDS + RECORD_WORDS)
 }
 
+#[inline(always)]
 pub fn holders_base(numbers: Numbers) -> usize
     requires { Bounds numbers }
     ensures { result ≡ holders_base numbers }
@@ -94,6 +90,7 @@ pub fn holders_base(numbers: Numbers) -> usize
     RECORD_WORDS * numbers.n + HEADER_WORDS
 }
 
+#[inline(always)]
 fn heard_base(numbers: Numbers) -> usize
     requires { Bounds numbers }
     ensures { result ≡ heard_base numbers }
@@ -110,25 +107,28 @@ pub fn words_need(numbers: Numbers) -> usize
     base + numbers.slots * rows * numbers.n
 }
 
-pub fn heard_place(numbers: Numbers, sort: Sort, slot: usize, phase: usize, sender: usize) -> usize
-    requires { (Bounds numbers) × (Within numbers sort slot phase sender) }
-    ensures { result ≡ heard_cell numbers sort slot phase sender }
+#[inline(always)]
+pub fn heard_place(numbers: Numbers, at: Address) -> usize
+    requires { (Bounds numbers) × (Addressed numbers at) }
+    ensures { result ≡ heard_cell numbers at.sort at.slot at.phase at.sender }
 {
     let base = heard_base(numbers);
-    let line = slot_row(numbers, slot);
+    let line = slot_row(numbers, at.slot);
     let rows = message_rows(numbers);
-    let row = row_of(numbers, sort, phase);
-    base + ((line * rows + row) * numbers.n + sender)
+    let row = row_of(numbers, at.sort, at.phase);
+    base + ((line * rows + row) * numbers.n + at.sender)
 }
 
 // ---- orders: tags, proposals, logs
 
+#[inline(always)]
 fn proposals_base(numbers: Numbers) -> usize
     ensures { result ≡ proposals_base numbers }
 {
     numbers.room
 }
 
+#[inline(always)]
 fn logs_base(numbers: Numbers) -> usize
     requires { Bounds numbers }
     ensures { result ≡ logs_base numbers }
@@ -143,6 +143,7 @@ pub fn orders_need(numbers: Numbers) -> usize
     logs_base(numbers) + numbers.n * numbers.slots
 }
 
+#[inline(always)]
 pub fn proposal_place(numbers: Numbers, slot: usize, sender: usize) -> usize
     requires { (Bounds numbers) × (slot < numbers.slots) × (sender < numbers.n) }
     ensures { result ≡ proposal_cell numbers slot sender }
@@ -152,6 +153,7 @@ pub fn proposal_place(numbers: Numbers, slot: usize, sender: usize) -> usize
     base + (line * numbers.n + sender)
 }
 
+#[inline(always)]
 pub fn log_place(numbers: Numbers, c: usize, slot: usize) -> usize
     requires { (Bounds numbers) × (c < numbers.n) × (slot < numbers.slots) }
     ensures { result ≡ log_cell numbers c slot }
@@ -172,13 +174,13 @@ pub fn ballots_need(numbers: Numbers) -> usize
 }
 
 // Proposals and notices have no cell among the ballots; their place there is row 0.
-pub fn ballot_place(numbers: Numbers, sort: Sort, slot: usize, phase: usize, sender: usize) -> usize
-    requires { (Bounds numbers) × (Within numbers sort slot phase sender) }
-    ensures { result ≡ ballot_cell numbers sort slot phase sender }
+#[inline(always)]
+pub fn ballot_place(numbers: Numbers, at: Address) -> usize
+    requires { (Bounds numbers) × (Addressed numbers at) }
+    ensures { result ≡ ballot_cell numbers at.sort at.slot at.phase at.sender }
 {
-    let line = slot_row(numbers, slot);
+    let line = slot_row(numbers, at.slot);
     let rows = ballot_rows(numbers);
-    let row = row_of(numbers, sort, phase);
-    let before = less_two(row);
-    (line * rows + before) * numbers.n + sender
+    let row = row_of(numbers, at.sort, at.phase).saturating_sub(2);
+    (line * rows + row) * numbers.n + at.sender
 }

@@ -1,20 +1,20 @@
 -- What the functions on messages ask: memories as long as the run needs, and a word that has a cell.
-use Rattle.std.specs.Prelude.{ℕ, ◌≤◌, false, List, length}
+use Rattle.std.specs.Prelude.{ℕ, ◌≤◌, false, length}
 use Rattle.model.specs.declared.Numbers.{Numbers}
 use Rattle.model.specs.declared.Round.TheVariants.{Idle}
 use Rattle.model.specs.declared.Sort.{Sort}
 use Rattle.model.specs.declared.Sort.TheVariants.{Proposals, States, Votes, Notices}
 use Rattle.model.specs.declared.Word.{Word}
 use Rattle.model.specs.Rack.{Messages, no_counts, Replica}
-use Rattle.tables.specs.Layout.{words_need, orders_need, ballots_need}
+use Rattle.tables.specs.Layout.{Tables, words_need, orders_need, ballots_need}
 use Rattle.tables.specs.Bounds.{Bounds}
 use Rattle.tables.specs.Write.{word_number}
 
-pub record Reach (N : Numbers) (ws os bs : List ℕ) : Type 0 where
+pub record Reach (N : Numbers) (t : Tables) : Type 0 where
   pub bounds : Bounds N
-  pub words : words_need N ≤ length ws
-  pub orders : orders_need N ≤ length os
-  pub ballots : ballots_need N ≤ length bs
+  pub words : words_need N ≤ length t.words
+  pub orders : orders_need N ≤ length t.orders
+  pub ballots : ballots_need N ≤ length t.ballots
 
 -- a word that fits the cell of its sort; a notice has none
 abbrev pub Fitting : Sort → Word → Type 0

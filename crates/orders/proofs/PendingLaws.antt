@@ -8,11 +8,12 @@ use mathlib.Core.Logic.{◌⊎◌, inl, inr, ⊎_elim}
 use Prim.Native.Nat.{ℕ, zero, suc, ◌+◌, ◌-◌, ◌^◌, ◌<◌, ◌≤◌}
 use native.Mathlib.Omega.{arith}
 use native.Mathlib.Decide.{ℕ_discrete}
-use native.Mathlib.Nat.{le_antisymm}
 use lib.Dec.{ltb, eqb}
 use lib.ListN.{length, get_or, take}
+use lib.Seq.{get_or-take}
+use Rattle.std.specs.List.{slice_range}
 use borrow.Author.Tests.{leb-true, leb-false, ltb-true, ltb-false, lt-ltb, le-ltb, eqb-true, eqb-false, eq-eqb, ne_eqb, not-true, not-false}
-use Rattle.model.specs.Tests.{if}
+use Rattle.model.specs.Tests.{if, any}
 use Rattle.model.specs.declared.Numbers.{Numbers}
 use Rattle.model.specs.declared.Round.TheVariants.{Idle}
 use Rattle.model.specs.Rack.{Replica}
@@ -25,8 +26,8 @@ use Rattle.tables.specs.Addresses.{log_in_range, log_read}
 use Rattle.model.proofs.FirstTag.{alike_ahead, ahead_itself, ahead_apart, ahead_so, behind, not_ahead}
 use Rattle.model.proofs.Counting.{any_nowhere, any_here, any_place, any_same}
 use Rattle.known.specs.Room.{Acting, as_holder, FirstPlace}
-use Rattle.orders.specs.Waiting.{logged_from, waits_at}
-use Rattle.known.proofs.TagLaws.{in_tags, rest, rest_none, rest_more, absent_all, absent_both}
+use Rattle.orders.specs.Waiting.{logged_in, waits_at}
+use Rattle.known.proofs.TagLaws.{in_tags, rest, rest_none, rest_more, absent_all, absent_both, part_count, part_cell}
 
 -- ---- which of two tags is ahead
 
@@ -74,41 +75,38 @@ same_first {r = r} {s = s} to back a b = go r s (λ h. b.0 r (to r (a.1 h)) h) (
 abbrev joined : Bool → ℕ → ℕ → ℕ
 joined ok y b = if (ok && not (eqb y 0)) (earlier y b) b
 
--- a tag y that passes or not beside the first so far: one law for each way out of the code
-module _ (ok : Bool) (y b : ℕ) where
-  -- it is 0
-  pub stays_blank : {z : Bool} → z ≡ eqb y 0 → z ≡ true → b ≡ joined ok y b
-  unfolding if
-  stays_blank e q = rw (told e q, and_false_right ok)
-
-  -- it does not come ahead, whether it passes or not
-  pub stays_ahead : {none l o : Bool} → none ≡ eqb b 0 → l ≡ ahead y b → o ≡ (none || l) → not o ≡ true → b ≡ joined ok y b
-  unfolding earlier
-  stays_ahead n l e q =
-      let behind = sym (ap₂ ◌||◌ n l) ∙ told e (not-true _ q) in
-      if-ind (λ (r : ℕ). b ≡ r) (ok && not (eqb y 0)) (λ _. sym (if-false _ _ behind)) (λ _. refl)
-
--- a tag passes if its place has the replica's bit and none of the closed slots has it
+-- a tag y beside the first so far: one law for each way out of the code. It passes if its place has the replica's bit and its
+-- log has no such entry.
 module _ (bit logged : Bool) (y b : ℕ) where
   abbrev pub passes : Bool
   passes = bit && not logged
+
+  -- it is 0
+  pub stays_blank : eqb y 0 ≡ true → b ≡ joined passes y b
+  unfolding if
+  stays_blank e = rw (e, and_false_right passes)
+
+  -- it does not come ahead, whether it passes or not
+  pub stays_behind : {l : Bool} → l ≡ (eqb b 0 || ahead y b) → not l ≡ true → b ≡ joined passes y b
+  unfolding earlier
+  stays_behind e q =
+      if-ind (λ (r : ℕ). b ≡ r) (passes && not (eqb y 0)) (λ _. sym (if-false _ _ (told e (not-true _ q)))) (λ _. refl)
 
   -- the bit is not there
   pub stays_unheld : {h : Bool} → h ≡ bit → not h ≡ true → b ≡ joined passes y b
   unfolding if
   stays_unheld e q = rw (told e (not-true _ q))
 
-  -- a closed slot has it
-  pub stays_logged : {place closed : ℕ} → ltb place closed ≡ logged → place < closed → b ≡ joined passes y b
+  -- the log has it
+  pub stays_logged : logged ≡ true → b ≡ joined passes y b
   unfolding if
-  stays_logged e l = rw (told e (lt-ltb _ _ l), and_false_right bit)
+  stays_logged e = rw (e, and_false_right bit)
 
   -- it comes ahead and passes
-  pub comes_ahead : {z none l o h : Bool} {place closed : ℕ} → z ≡ eqb y 0 → z ≡ false → none ≡ eqb b 0 → l ≡ ahead y b → o ≡ (none || l) → not o ≡ false
-      → h ≡ bit → not h ≡ false → ltb place closed ≡ logged → closed ≤ place → y ≡ joined passes y b
+  pub comes_ahead : {l h : Bool} → eqb y 0 ≡ false → l ≡ (eqb b 0 || ahead y b) → not l ≡ false → h ≡ bit → not h ≡ false → logged ≡ false
+      → y ≡ joined passes y b
   unfolding earlier if
-  comes_ahead e z n l w q held t p g =
-      rw (told held (not-false _ t), told p (le-ltb _ _ g), told e z, sym (ap₂ ◌||◌ n l) ∙ told w (not-false _ q))
+  comes_ahead some e q held t new = rw (told held (not-false _ t), new, some, told e (not-false _ q))
 
 -- B is A and one more tag y, if it passes
 module _ {A B : ℕ → Type 0} (ok : Bool) (y : ℕ) (kept : (x : ℕ) → A x → B x) (added : ok ≡ true → B y)
@@ -174,6 +172,16 @@ module _ (ts : List ℕ) where
         subst (First (Stands ok 0 (i + 1))) (sym e)
         (stands_more i (omega arith) (omega arith) (λ j h l. (h, omega arith)) (λ j h l ne. (h, omega arith)) f)
 
+-- a turn of the loop, over the known tags and their masks: the next tag and mask are those of place i
+pub first_turn : (os ws log : List ℕ) (h k c i : ℕ) {j tag mask b r : ℕ} → i < k → j ≡ i + 1
+    → tag ≡ get_or (take k os) i 0 → mask ≡ get_or (slice_range ws h (h + k)) i 0
+    → First (Stands os (waits_at h log c ws os) 0 i) b → r ≡ joined (has_bit mask c && not (logged_in log tag)) tag b
+    → First (Stands os (waits_at h log c ws os) 0 j) r
+first_turn os ws log h k c i {b = b} {r = r} inside next tag mask f e =
+    let new = ap₂ (λ (x m : ℕ). joined (has_bit m c && not (logged_in log x)) x b)
+    (tag ∙ get_or-take k os i 0 inside) (mask ∙ part_cell ws h (h + k) i (omega arith)) in
+    subst (λ (n : ℕ). First (Stands os (waits_at h log c ws os) 0 n) r) (sym next) (first_more os _ i f (e ∙ new))
+
 -- ---- the definition's, whose test is of the tag
 
 module _ (ts : List ℕ) (k : ℕ) (l : k ≤ length ts) (ok : ℕ → Bool) where
@@ -206,26 +214,18 @@ log_there {N} {c} s acts from low =
     let enough = acts.room.orders in
     omega arith
 
--- a cell of the log has the tag: its slot is one of the closed ones
-pub entry_met : {base closed x a b r : ℕ} {os : List ℕ} → FirstPlace os x a b r → r < b → base ≤ a → b ≤ base + closed
-    → (r - base ≤ closed) × (ltb (r - base) closed ≡ logged_from base closed os x)
-unfolding logged_from
-entry_met {base} {closed} {x} {r = r} {os = os} f l low high =
-    let h = f.from in
-    let at : base + (r - base) ≡ r = omega arith in
-    let there = ap (λ (i : ℕ). get_or os i 0) at ∙ f.has l in
-    (omega arith, lt-ltb (r - base) closed (omega arith) ∙ sym (any_here closed _ (r - base) (omega arith) (eq-eqb _ x there)))
+-- a search of the log, or of a part of it, has found the tag
+pub entry_met : {log : List ℕ} {x a b r : ℕ} → FirstPlace log x a b r → r < b → b ≤ length log → (r < length log) × (logged_in log x ≡ true)
+unfolding logged_in
+entry_met {log} {x} {r = r} f l few = (omega arith, any_here (length log) _ r (omega arith) (eq-eqb _ x (f.has l)))
 
--- neither the later cells nor the earlier ones have it
-pub entry_missed : {base closed from x r q : ℕ} {os : List ℕ} → from ≤ closed → FirstPlace os x (base + from) (base + closed) r → base + closed ≤ r
-    → FirstPlace os x base (base + from) q → base + from ≤ q → (closed ≤ closed) × (ltb closed closed ≡ logged_from base closed os x)
-unfolding logged_from
-entry_missed {base} {closed} low later past earlier past' =
-    let none = absent_both (absent_all earlier past') (absent_all later past) in (
-      omega arith,
-      le-ltb closed closed (omega arith)
-          ∙ sym (any_nowhere closed _ (λ s h. ne_eqb _ _ (none.apart (base + s) (omega arith) (omega arith)))),
-    )
+-- neither the later entries nor the earlier ones are it
+pub entry_missed : {log : List ℕ} {x from r q : ℕ} → FirstPlace log x from (length log) r → length log ≤ r → FirstPlace log x 0 from q → from ≤ q
+    → logged_in log x ≡ false
+unfolding logged_in
+entry_missed {log} later past earlier past' =
+    let none = absent_both (absent_all earlier past') (absent_all later past) in
+    any_nowhere (length log) _ (λ s h. ne_eqb _ _ (none.apart s (omega arith) h))
 
 -- ---- a tag is held where it stands, or at another place that has it
 
@@ -259,16 +259,25 @@ module _ (N : Numbers) (c s : ℕ) (ws os : List ℕ) where
       let same = eqb-true _ _ e in
       (a, omega arith, inside, and_both _ _ b (ap (λ (y : ℕ). not (logged own y)) same ∙ new), same ∙ tag)
 
-  module _ {holders log : ℕ} (masks : holders ≡ holders_base N) (entries : log ≡ log_cell N c 0) (low : s ≤ N.slots) where
+  module _ {holders start : ℕ} {log : List ℕ} (acts : Acting N c ws os) (masks : holders ≡ holders_base N) (from : start ≡ log_cell N c 0)
+      (entries : log ≡ slice_range os start (start + s)) (low : s ≤ N.slots) where
+    closed : length log ≡ s
+    closed = let there = log_there s acts from low in ap length entries ∙ part_count os start (start + s) (omega arith) (omega arith) ∙ omega arith
+
+    entry_is : (i : ℕ) → i < s → get_or log i 0 ≡ log_in N os c i
+    entry_is i h =
+        ap (λ (l : List ℕ). get_or l i 0) entries ∙ part_cell os start (start + s) i (omega arith) ∙ entry_there N os c i from (omega arith)
+
     -- the code asks a place the same
-    asks_alike : waits_at holders log s c ws os ≡ waits
-    unfolding logged_from
+    asks_alike : waits_at holders log c ws os ≡ waits
+    unfolding logged_in
     asks_alike = fun_ext (λ j. ap₂ (λ (b : ℕ) (l : Bool). has_bit (get_or ws (b + j) 0) c && not l) masks
-        (any_same s _ _ (λ i h. ap (λ (y : ℕ). eqb y (get_or os j 0)) (entry_there N os c i entries (omega arith)))))
+        (ap (λ (n : ℕ). any n (λ i. eqb (get_or log i 0) (get_or os j 0))) closed
+        ∙ any_same s _ _ (λ i h. ap (λ (y : ℕ). eqb y (get_or os j 0)) (entry_is i h))))
 
     -- the loop's first, after all places, is the definition's
-    pub first_is : {k i r : ℕ} → Acting N c ws os → k ≡ known_in ws → i ≤ k → k ≤ i → First (Stands os (waits_at holders log s c ws os) 0 i) r
+    pub first_is : {k i r : ℕ} → k ≡ known_in ws → i ≡ k → First (Stands os (waits_at holders log c ws os) 0 i) r
         → r ≡ next_tag (take known os) own
-    first_is {r = r} acts count to from f =
-        let all = ap₂ (λ (ok : ℕ → Bool) (j : ℕ). First (Stands os ok 0 j) r) asks_alike (le_antisymm to from ∙ count) in
+    first_is {r = r} count at f =
+        let all = ap₂ (λ (ok : ℕ → Bool) (j : ℕ). First (Stands os ok 0 j) r) asks_alike (at ∙ count) in
         same_first pending_here held_somewhere (subst (λ (A : Type 0). A) all f) (of_rest os known (in_tags acts.room) (pending own) known 0 (omega arith))

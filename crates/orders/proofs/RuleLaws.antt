@@ -2,16 +2,19 @@
 use mathlib.Core.Path.{◌≡◌, refl, sym, ◌∙◌, ap₂, subst}
 use mathlib.Core.Bool.{Bool, true, false, not, ◌&&◌}
 use mathlib.Core.List.{List}
-use Prim.Native.Nat.{ℕ, ◌≤◌, ◌<◌}
+use Prim.Native.Nat.{ℕ, ◌≤◌}
 use native.Mathlib.Omega.{arith}
 use lib.Dec.{leb, ltb, eqb}
 use lib.ListN.{length, take}
-use borrow.Author.Tests.{lt-ltb, le-ltb, lt-leb, le-leb, not-true, not-false}
+use borrow.Author.Tests.{not-true, not-false}
+use denote.Enum.Bare.{sameb}
+use Rattle.model.specs.contracts.Round.{the_type}
 use Rattle.model.specs.declared.Numbers.{Numbers}
 use Rattle.model.specs.declared.Round.{Round}
-use Rattle.model.specs.declared.Round.TheVariants.{Idle}
+use Rattle.model.specs.declared.Round.TheVariants.{Idle, Exchange, State, Vote, Find}
 use Rattle.model.specs.declared.Sort.TheVariants.{Proposals}
 use Rattle.model.specs.declared.Word.TheVariants.{Tag}
+use Rattle.model.specs.declared.Refusal.{Refusal}
 use Rattle.model.specs.declared.Refusal.TheVariants.{BlankTag, AlreadyHeld, TagRoomFull, UnknownTag, Busy, LogFull, NothingPending}
 use Rattle.model.specs.declared.Effect.{Effect}
 use Rattle.model.specs.declared.Effect.TheVariants.{Refuse, Hold, Send}
@@ -40,17 +43,16 @@ module _ (N : Numbers) (c x : ℕ) (ws os : List ℕ) where
   relays = settle (relay_rule known own x)
 
   -- tag 0
-  pub submit_blank : {b : Bool} → b ≡ eqb x 0 → b ≡ true → Refuse BlankTag ≡ submits
+  pub submit_blank : {why : Refusal} → why ≡ BlankTag → eqb x 0 ≡ true → Refuse why ≡ submits
   unfolding unless if
-  submit_blank e q = rw (told e q)
+  submit_blank is e = rw (is, e)
 
-  pub relay_blank : {b : Bool} → b ≡ eqb x 0 → b ≡ true → Refuse BlankTag ≡ relays
+  pub relay_blank : {why : Refusal} → why ≡ BlankTag → eqb x 0 ≡ true → Refuse why ≡ relays
   unfolding unless if
-  relay_blank e q = rw (told e q)
+  relay_blank is e = rw (is, e)
 
   -- another tag, by the count and the place as the code has found them
-  module _ (acts : Acting N c ws os) {b : Bool} (is : b ≡ eqb x 0) (some : b ≡ false) {k i : ℕ} (count : k ≡ known_in ws)
-      (place : i ≡ place_in x (take k os)) where
+  module _ (acts : Acting N c ws os) (some : eqb x 0 ≡ false) {k i : ℕ} (count : k ≡ known_in ws) (place : i ≡ place_in x (take k os)) where
     few : k ≤ length os
     few = let l = in_tags acts.room in omega arith
 
@@ -65,9 +67,9 @@ module _ (N : Numbers) (c x : ℕ) (ws os : List ℕ) where
         (room_for os k few x N.room place ∙ ap₂ (λ (a b : Bool). not a && b) p q)
 
     -- a tag that is not known
-    pub relay_unknown : k ≤ i → Refuse UnknownTag ≡ relays
+    pub relay_unknown : ltb i k ≡ false → Refuse UnknownTag ≡ relays
     unfolding unless if
-    relay_unknown h = rw (told is some, listed_is (le-ltb _ _ h))
+    relay_unknown new = rw (some, listed_is new)
 
     -- whether it is held
     module _ {base : ℕ} (from : base ≡ holders_base N) {h : Bool} (holds : h ≡ held_from base k os ws c x) where
@@ -76,52 +78,63 @@ module _ (N : Numbers) (c x : ℕ) (ws os : List ℕ) where
 
       pub submit_held : h ≡ true → Refuse AlreadyHeld ≡ submits
       unfolding unless if
-      submit_held q = rw (told is some, held_is q)
+      submit_held q = rw (some, held_is q)
 
       -- a new tag, no room left
-      pub submit_full : h ≡ false → k ≤ i → N.room ≤ k → Refuse TagRoomFull ≡ submits
+      pub submit_full : h ≡ false → ltb i k ≡ false → leb N.room k ≡ true → Refuse TagRoomFull ≡ submits
       unfolding unless if
-      submit_full q new full = rw (told is some, held_is q, full_is (le-ltb _ _ new) (le-leb _ _ full))
+      submit_full q new full = rw (some, held_is q, full_is new full)
 
       -- a new tag, room left
-      pub submit_new : h ≡ false → k ≤ i → k < N.room → Hold x ≡ submits
+      pub submit_new : h ≡ false → ltb i k ≡ false → leb N.room k ≡ false → Hold x ≡ submits
       unfolding unless if
-      submit_new q new room = rw (told is some, held_is q, full_is (le-ltb _ _ new) (lt-leb _ _ room))
+      submit_new q new room = rw (some, held_is q, full_is new room)
 
       -- a known tag
-      pub submit_known : h ≡ false → i < k → Hold x ≡ submits
+      pub submit_known : h ≡ false → ltb i k ≡ true → Hold x ≡ submits
       unfolding unless if
-      submit_known q old = rw (told is some, held_is q, full_is (lt-ltb _ _ old) refl)
+      submit_known q old = rw (some, held_is q, full_is old refl)
 
-      pub relay_held : i < k → h ≡ true → Refuse AlreadyHeld ≡ relays
+      pub relay_held : ltb i k ≡ true → h ≡ true → Refuse AlreadyHeld ≡ relays
       unfolding unless if
-      relay_held old q = rw (told is some, listed_is (lt-ltb _ _ old), held_is q)
+      relay_held old q = rw (some, listed_is old, held_is q)
 
-      pub relay_known : i < k → h ≡ false → Hold x ≡ relays
+      pub relay_good : ltb i k ≡ true → h ≡ false → Hold x ≡ relays
       unfolding unless if
-      relay_known old q = rw (told is some, listed_is (lt-ltb _ _ old), held_is q)
+      relay_good old q = rw (some, listed_is old, held_is q)
 
-module _ (N : Numbers) (c : ℕ) (a : Round) (s : ℕ) (ws os : List ℕ) {b : Bool} (idle : b ≡ same_round a Idle) where
+-- the code's test of a round is the definition's
+idle_is : (a : Round) → sameb the_type a Idle ≡ same_round a Idle
+idle_is Idle = refl
+idle_is Exchange = refl
+idle_is State = refl
+idle_is Vote = refl
+idle_is Find = refl
+
+module _ (N : Numbers) (c : ℕ) (a : Round) (s : ℕ) (ws os : List ℕ) where
   abbrev begins : Effect
   begins = settle (begin_rule N.slots (take (known_in ws) os) (as_holder N c a s ws os))
 
   -- in a round
-  pub begin_busy : not b ≡ true → Refuse Busy ≡ begins
+  pub begin_busy : true ≡ not (sameb the_type a Idle) → Refuse Busy ≡ begins
   unfolding unless if
-  begin_busy q = rw (told idle (not-true _ q))
+  begin_busy e = rw (← idle_is a, not-true _ (sym e))
 
-  module _ (free : not b ≡ false) where
+  module _ (free : false ≡ not (sameb the_type a Idle)) where
+    idle : same_round a Idle ≡ true
+    idle = sym (idle_is a) ∙ not-false _ (sym free)
+
     -- all slots closed
-    pub begin_full : N.slots ≤ s → Refuse LogFull ≡ begins
+    pub begin_full : leb N.slots s ≡ true → Refuse LogFull ≡ begins
     unfolding unless if
-    begin_full h = rw (told idle (not-false _ free), le-leb _ _ h)
+    begin_full h = rw (idle, h)
 
     -- by the tag that comes next, and whether it is 0
-    module _ (h : s < N.slots) {x : ℕ} (next : x ≡ next_tag (take (known_in ws) os) (as_holder N c Idle s ws os)) {z : Bool} (blank : z ≡ eqb x 0) where
-      pub begin_none : z ≡ true → Refuse NothingPending ≡ begins
+    module _ (low : leb N.slots s ≡ false) {x : ℕ} (next : x ≡ next_tag (take (known_in ws) os) (as_holder N c Idle s ws os)) where
+      pub begin_none : eqb x 0 ≡ true → Refuse NothingPending ≡ begins
       unfolding unless if
-      begin_none q = rw (told idle (not-false _ free), lt-leb _ _ h, ← next, told blank q)
+      begin_none e = rw (idle, low, ← next, e)
 
-      pub begin_sends : z ≡ false → Send Proposals 0 (Tag x) ≡ begins
+      pub begin_sends : eqb x 0 ≡ false → Send Proposals 0 (Tag x) ≡ begins
       unfolding unless if
-      begin_sends q = rw (told idle (not-false _ free), lt-leb _ _ h, ← next, told blank q)
+      begin_sends e = rw (idle, low, ← next, e)

@@ -1,72 +1,80 @@
 // Submit, relay and begin: refusals 6 to 12.
-ghost use Rattle.std.specs.Prelude.{◌≡◌, ◌≤◌, take};
+ghost use Rattle.std.specs.Prelude.{◌≡◌, ◌≤◌, true, false, eqb, take, MatchResult};
 ghost use Rattle.model.specs.declared.Round.TheVariants.{Idle};
-ghost use Rattle.model.specs.Rack.{same_round};
-ghost use Rattle.model.specs.TurnedAway.{settle};
+ghost use Rattle.model.specs.declared.Sort.TheVariants.{Proposals};
+ghost use Rattle.model.specs.declared.Word.TheVariants.{Tag};
+ghost use Rattle.model.specs.declared.Effect.TheVariants.{Hold, Send};
+ghost use Rattle.model.specs.declared.Refusal.TheVariants.{BlankTag};
+ghost use Rattle.model.specs.TurnedAway.{settle, effect_in};
 ghost use Rattle.model.specs.Rules.{submit_rule, relay_rule, begin_rule};
 ghost use Rattle.tables.specs.Layout.{known_in};
 ghost use Rattle.known.specs.Room.{Acting, as_holder};
 
 use crate::pending::next_tag;
 use cells::records::known_in;
-use known::{held_from, is_blank, tag_place};
+use known::{held_from, tag_place};
 use layout::holders_base;
-use model::{Effect, Numbers, Refusal, Round, Sort, Word};
+use model::{Numbers, Refusal, Round};
 
-pub fn submit_rule(numbers: Numbers, who: usize, x: u64, words: &[u16], orders: &[u64]) -> Effect
+// "Tag 0 is no order".
+fn vet_tag(x: u64) -> Result<(), Refusal>
+    ensures { MatchResult result (λ _. eqb x 0 ≡ false) (λ why. (why ≡ BlankTag) × (eqb x 0 ≡ true)) }
+{
+    if x == 0 {
+        return Err(Refusal::BlankTag);
+    }
+    Ok(())
+}
+
+pub fn submit_rule(
+    numbers: Numbers,
+    who: usize,
+    x: u64,
+    words: &[u16],
+    orders: &[u64],
+) -> Result<(), Refusal>
     requires { Acting numbers who words.now orders.now }
     ensures { let known = take (known_in words.now) orders.now in
         let k = as_holder numbers who Idle 0 words.now orders.now in
-        result ≡ settle (submit_rule numbers.room known k x) }
+        effect_in (λ _. Hold x) result ≡ settle (submit_rule numbers.room known k x) }
 {
-    if is_blank(x) {
-        return Effect::Refuse(Refusal::BlankTag);
-    }
+    vet_tag(x)?;
     let known = known_in(words) as usize;
     let first = tag_place(x, known, orders);
     if held_from(who, x, first, known, holders_base(numbers), words, orders) {
-        return Effect::Refuse(Refusal::AlreadyHeld);
+        return Err(Refusal::AlreadyHeld);
     }
-    if known <= first {
-        if numbers.room <= known {
-            return Effect::Refuse(Refusal::TagRoomFull);
-        }
+    if known <= first && numbers.room <= known {
+        return Err(Refusal::TagRoomFull);
     }
-    Effect::Hold(x)
+    Ok(())
 }
 
-pub fn relay_rule(numbers: Numbers, who: usize, x: u64, words: &[u16], orders: &[u64]) -> Effect
+pub fn relay_rule(
+    numbers: Numbers,
+    who: usize,
+    x: u64,
+    words: &[u16],
+    orders: &[u64],
+) -> Result<(), Refusal>
     requires { Acting numbers who words.now orders.now }
     ensures { let known = take (known_in words.now) orders.now in
         let k = as_holder numbers who Idle 0 words.now orders.now in
-        result ≡ settle (relay_rule known k x) }
+        effect_in (λ _. Hold x) result ≡ settle (relay_rule known k x) }
 {
-    if is_blank(x) {
-        return Effect::Refuse(Refusal::BlankTag);
-    }
+    vet_tag(x)?;
     let known = known_in(words) as usize;
     let first = tag_place(x, known, orders);
     if known <= first {
-        return Effect::Refuse(Refusal::UnknownTag);
+        return Err(Refusal::UnknownTag);
     }
     if held_from(who, x, first, known, holders_base(numbers), words, orders) {
-        return Effect::Refuse(Refusal::AlreadyHeld);
+        return Err(Refusal::AlreadyHeld);
     }
-    Effect::Hold(x)
+    Ok(())
 }
 
-fn is_idle(round: Round) -> bool
-    ensures { result ≡ same_round round Idle }
-{
-    match round {
-        Round::Idle => true,
-        Round::Exchange => false,
-        Round::State => false,
-        Round::Vote => false,
-        Round::Find => false,
-    }
-}
-
+// The tag that is proposed.
 pub fn begin_rule(
     numbers: Numbers,
     who: usize,
@@ -74,25 +82,21 @@ pub fn begin_rule(
     closed: usize,
     words: &[u16],
     orders: &[u64],
-) -> Effect
+) -> Result<u64, Refusal>
     requires { (closed ≤ numbers.slots) × (Acting numbers who words.now orders.now) }
     ensures { let known = take (known_in words.now) orders.now in
         let k = as_holder numbers who round closed words.now orders.now in
-        result ≡ settle (begin_rule numbers.slots known k) }
+        effect_in (λ x. Send Proposals 0 (Tag x)) result ≡ settle (begin_rule numbers.slots known k) }
 {
-    if !is_idle(round) {
-        return Effect::Refuse(Refusal::Busy);
+    if round != Round::Idle {
+        return Err(Refusal::Busy);
     }
     if numbers.slots <= closed {
-        return Effect::Refuse(Refusal::LogFull);
+        return Err(Refusal::LogFull);
     }
-    let x = next_tag(numbers, who, closed, words, orders);
-    if is_blank(x) {
-        return Effect::Refuse(Refusal::NothingPending);
+    let first = next_tag(numbers, who, closed, words, orders);
+    if first == 0 {
+        return Err(Refusal::NothingPending);
     }
-    Effect::Send {
-        sort: Sort::Proposals,
-        phase: 0,
-        word: Word::Tag(x),
-    }
+    Ok(first)
 }

@@ -17,7 +17,7 @@ pub struct Reader<'a> {
 }
 
 // Reads a record and moves on. After refusal 19 or 20, and at the end, the place stays: a further read finds the same.
-pub fn next_record<'s, 'a>(reader: &'s mut Reader<'a>) -> Found
+pub fn next_record(reader: &mut Reader) -> Found
     ensures { let l = reader.old.file.now in
         let at = reader.old.at in
         let read = file_record l at in

@@ -1,88 +1,89 @@
 // What every step but a crash asks first: refusals 3, 2, 4, 5, in this order. Inner code: no calls of the library.
 #![tactic(auto)]
 
-ghost use Rattle.std.specs.Prelude.{◌≡◌, false, length};
+ghost use Rattle.std.specs.Prelude.{◌≡◌, false};
 ghost use Rattle.tables.specs.Bounds.{Bounds};
 ghost use Rattle.tables.specs.Checks.{lengths, long};
-ghost use Rattle.tables.specs.Calls.{tables};
-ghost use Rattle.refusals.specs.Vet.{run_spoiled, vetted};
+ghost use Rattle.tables.specs.Lent.{held};
+ghost use Rattle.refusals.specs.Vet.{run_spoiled, vetted, first_vetted};
 
 use cells::records::{any_spoiled, known_in, load};
 use layout::{ballots_need, orders_need, words_need};
 use model::{Numbers, Refusal};
-use tables::Lengths;
+use tables::{Lengths, Memory};
 use values::limits::numbers_limited;
 
-#[derive(Clone, Copy)]
-pub enum Vetted {
-    Refused(Refusal),
-    Passed,
-}
-
 // No memory is "shorter than the run needs".
+#[tactic(auto, unfolding(tables::specs::Checks::long))]
 pub fn tables_long(numbers: Numbers, lengths: Lengths) -> bool
     requires { Bounds numbers }
     ensures { result ≡ long numbers lengths }
 {
-    if lengths.words < words_need(numbers) {
-        return false;
-    }
-    if lengths.orders < orders_need(numbers) {
-        return false;
-    }
-    ballots_need(numbers) <= lengths.ballots
+    words_need(numbers) <= lengths.words
+        && orders_need(numbers) <= lengths.orders
+        && ballots_need(numbers) <= lengths.ballots
 }
 
-pub fn measure(words: &[u16], orders: &[u64], ballots: &[u8]) -> Lengths
-    ensures { result ≡ lengths (tables words.now orders.now ballots.now) }
+pub fn measure(memory: &Memory) -> Lengths
+    ensures { result ≡ lengths (held memory.now) }
 {
     Lengths {
-        words: words.len(),
-        orders: orders.len(),
-        ballots: ballots.len(),
+        words: memory.words.len(),
+        orders: memory.orders.len(),
+        ballots: memory.ballots.len(),
     }
 }
 
-// 3. Apart from what is asked behind it, so that the compiler joins both with each step: together they are too large for that.
+// 3: of the numbers, the count of known tags and the records.
+#[tactic(auto, using(tables::specs::Bounds::bounds))]
+#[inline(always)]
 pub fn run_spoiled(numbers: Numbers, words: &[u16]) -> bool
     ensures { result ≡ run_spoiled numbers words.now }
 {
-    if !numbers_limited(numbers) {
-        return true;
-    }
-    if numbers.room < (known_in(words) as usize) {
-        return true;
-    }
-    any_spoiled(numbers, words)
+    !numbers_limited(numbers)
+        || numbers.room < usize::from(known_in(words))
+        || any_spoiled(numbers, words)
 }
 
-// 2, 4, 5, behind 3. `who` acts; `other` is a second replica that the step names, or `who` again.
-pub fn vet(
+// 2, 4, 5, behind 3.
+#[inline(always)]
+fn vet(
     numbers: Numbers,
     who: usize,
     other: usize,
-    lengths: Lengths,
+    memory: &Memory,
     strip: usize,
-    words: &[u16],
-) -> Vetted
-    requires { (run_spoiled numbers words.now ≡ false) × (lengths.words ≡ length words.now) }
-    ensures { result ≡ vetted numbers who other lengths strip words.now }
+) -> Result<(), Refusal>
+    requires { run_spoiled numbers (held memory.now).words ≡ false }
+    ensures { let t = held memory.now in
+        result ≡ vetted numbers who other (lengths t) strip t.words }
 {
-    if !tables_long(numbers, lengths) {
-        return Vetted::Refused(Refusal::ShortTable);
+    if !tables_long(numbers, measure(memory)) || strip < numbers.slots * numbers.phases {
+        return Err(Refusal::ShortTable);
     }
-    if strip < numbers.slots * numbers.phases {
-        return Vetted::Refused(Refusal::ShortTable);
+    if numbers.n <= who || numbers.n <= other {
+        return Err(Refusal::NoSuchReplica);
     }
-    if numbers.n <= who {
-        return Vetted::Refused(Refusal::NoSuchReplica);
+    if load(memory.words, who).crashed != 0 {
+        return Err(Refusal::Crashed);
     }
-    if numbers.n <= other {
-        return Vetted::Refused(Refusal::NoSuchReplica);
+    Ok(())
+}
+
+// 3, 2, 4, 5. `who` acts; `other` is a second replica that the step names, or `who` again. The compiler is told to join it and
+// its two parts with each step: by its own measure they are too large for that.
+#[inline(always)]
+pub fn admit(
+    numbers: Numbers,
+    who: usize,
+    other: usize,
+    memory: &Memory,
+    strip: usize,
+) -> Result<(), Refusal>
+    ensures { result ≡ first_vetted numbers who other strip (held memory.now) }
+{
+    if run_spoiled(numbers, memory.words) {
+        return Err(Refusal::SpoiledRecord);
     }
-    let k = load(words, who);
-    if k.crashed != 0 {
-        return Vetted::Refused(Refusal::Crashed);
-    }
-    Vetted::Passed
+    vet(numbers, who, other, memory, strip)
 }

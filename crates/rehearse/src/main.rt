@@ -6,15 +6,17 @@ ghost use Rattle.io.specs.Counts.{IsPrefixLen};
 ghost use Rattle.files.specs.Page.{page, print};
 ghost use Rattle.files.specs.Rehearsal.{rehearsal};
 
+use files::Report;
 use model::Numbers;
 use session::play;
 use std::io;
 use std::io::Read;
+use tables::Memory;
 
 // "With tables for 7 controllers, 16 slots, 8 phases and 64 tags; larger openings get refusal 2." Document 02: 16 phases.
-fn rehearse(file: &[u8], report: &mut [u8]) -> usize
-    ensures prefix_len { IsPrefixLen result report.new }
-    ensures result_after { page report.new result ≡ print (page report.old 0) (rehearsal file.now) }
+fn rehearse(file: &[u8], bytes: &mut [u8]) -> usize
+    ensures prefix_len { IsPrefixLen result bytes.new }
+    ensures result_after { page bytes.new result ≡ print (page bytes.old 0) (rehearsal file.now) }
 {
     let most = Numbers {
         n: 7,
@@ -27,16 +29,14 @@ fn rehearse(file: &[u8], report: &mut [u8]) -> usize
     let mut orders = [0u64; 288];
     let mut ballots = [0u8; 3584];
     let mut strip = [0u8; 256];
-    let session = play(
-        most,
-        file,
-        report,
-        &mut words,
-        &mut orders,
-        &mut ballots,
-        &mut strip,
-    );
-    session.written
+    let mut memory = Memory {
+        words: &mut words,
+        orders: &mut orders,
+        ballots: &mut ballots,
+    };
+    let mut report = Report { bytes, written: 0 };
+    play(most, file, &mut report, &mut memory, &mut strip);
+    report.written
 }
 
 // As long as the longest report of 65,536 bytes of steps.
@@ -47,6 +47,7 @@ fn room() -> [u8; 1600000]
 }
 
 // Reads until the buffer is full or the input ends, and answers how many bytes stand at its front.
+// By hand: `read_exact` fails where the input ends before the buffer is full, and `read_to_end` needs a heap.
 fn read_full<R: Read>(input: &mut R, buffer: &mut [u8]) -> io::Result<usize>
     ensures { IfOk result (λ n. IsPrefixLen n buffer.new) }
 {

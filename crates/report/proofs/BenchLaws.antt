@@ -1,7 +1,6 @@
 -- A line for each replica: entry by entry, and bench by bench.
 use Prim.Native.Nat.{ℕ, zero, suc, ◌+◌, ◌<◌, ◌≤◌}
 use native.Mathlib.Omega.{arith}
-use native.Mathlib.Nat.{le_antisymm}
 use native.Mathlib.Numerals.{add-one}
 use mathlib.Core.Bool.{Bool, true, false, not}
 use mathlib.Core.List.{List, ◌++◌}
@@ -14,9 +13,8 @@ use Rattle.model.specs.declared.Numbers.{Numbers}
 use Rattle.model.proofs.Branches.{told, if-true, if-false}
 use Rattle.model.specs.Rack.{Replica, fresh_replica}
 use Rattle.tables.specs.declared.Record.{Record}
-use Rattle.tables.specs.Bounds.{Bounds, largest, orders_few}
-use Rattle.tables.specs.Layout.{Tables, record_at, has_row, log_cell, orders_need}
-use Rattle.tables.specs.Addresses.{log_in_range, log_read, log_past}
+use Rattle.tables.specs.Layout.{Tables, record_at, has_row, log_cell}
+use Rattle.tables.specs.Addresses.{log_read, log_past}
 use Rattle.tables.specs.View.{only, log_in, replica_at, view}
 use Rattle.files.specs.Text.{text, decimal}
 use Rattle.files.specs.Page.{Page, print}
@@ -27,13 +25,6 @@ use Rattle.report.proofs.PageLaws.{then, same_text, nothing}
 module _ (N : Numbers) (s : ℕ) {b : Bool} (e : b ≡ has_row N s) where
   pub row_there : b ≡ true → s < N.slots
   row_there h = ltb-true s N.slots (told e h)
-
-  pub entry_inside : {c i len : ℕ} → (Bounds N) × (c < N.n) × (orders_need N ≤ len) → b ≡ true → i ≡ log_cell N c s
-      → (i < len) × (i ≤ orders_need largest)
-  entry_inside {c} (bounds, own, long) h g =
-      let k = log_in_range N c s own (row_there h) in
-      let few = orders_few N bounds in
-      (omega arith, omega arith)
 
   pub entry_there : (orders : List ℕ) (c : ℕ) {i : ℕ} → b ≡ true → i ≡ log_cell N c s → get_or orders i 0 ≡ log_in N orders c s
   entry_there orders c h g = ap (λ (i : ℕ). get_or orders i 0) g ∙ log_read N orders c s (row_there h)
@@ -67,9 +58,6 @@ entry_more p {q} {r} entry s x e h g =
     then p (entries_text s entry) (entry_text (entry s)) e (same_text q _ _ (ap entry_text h) g)
     ∙ ap (λ (k : ℕ). print p (entries_text k entry)) (sym (add-one s))
 
-pub all_entries : (p : Page) {q : Page} (entry : ℕ → ℕ) (s k : ℕ) → s ≤ k → k ≤ s → q ≡ print p (entries_text s entry) → q ≡ print p (entries_text k entry)
-all_entries p entry s k l g h = h ∙ ap (λ (k : ℕ). print p (entries_text k entry)) (le_antisymm l g)
-
 module _ (p : Page) (N : Numbers) (words orders : List ℕ) where
   -- the pieces of a line, by the replica's record
   pub bench : {a b d e f g : Page} (c : ℕ) {k : Record} → k ≡ record_at words c → a ≡ print p (text "bench ") → b ≡ print a (decimal c)
@@ -88,10 +76,6 @@ module _ (p : Page) (N : Numbers) (words orders : List ℕ) where
       → r ≡ print p (benches_in N words orders (c + 1))
   unfolding benches_in
   bench_more c e g = then p (benches_in N words orders c) _ e g ∙ ap (λ (k : ℕ). print p (benches_in N words orders k)) (sym (add-one c))
-
-  pub all_benches : {q : Page} (c : ℕ) → c ≤ N.n → N.n ≤ c → q ≡ print p (benches_in N words orders c)
-      → q ≡ print p (benches_in N words orders N.n)
-  all_benches c l g h = h ∙ ap (λ (k : ℕ). print p (benches_in N words orders k)) (le_antisymm l g)
 
 -- the same lines by the rack that the tables stand for
 pub by_view : (N : Numbers) (t : Tables) (c : ℕ) → c ≤ N.n → benches_in N t.words t.orders c ≡ bench_lines c (view N t).at

@@ -2,7 +2,7 @@
 use Prim.Native.Nat.{ℕ, zero, suc, ◌+◌, ◌-◌, ◌/◌, ◌%◌, ◌<◌, ◌≤◌}
 use mathlib.Core.Logic.{◌≢◌}
 use mathlib.Core.Path.{◌≡◌, refl, sym, ◌∙◌, ap}
-use mathlib.Core.List.{List, [], ◌∷◌, ◌++◌}
+use mathlib.Core.List.{List, ◌++◌}
 use native.Mathlib.Omega.{arith}
 use borrow.Author.Tests.{lt-ltb, le-ltb}
 use Rattle.model.proofs.Branches.{if-true, if-false}
@@ -27,16 +27,18 @@ module _ (p : Page) (n : ℕ) where
   no_digit (suc k) e = absurd (omega arith)
 
   -- the number has one digit, and its byte was put
-  pub last_digit : {q : Page} (left b : ℕ) → left ≢ 0 → n < 10 → b ≡ 48 + n → q ≡ put_byte p b → q ≡ print p (digits left n)
-  last_digit zero b z h e g = absurd (z refl)
-  last_digit (suc k) b z h e g = one_byte p b g ∙ ap (λ (d : ℕ). print p (d ∷ [])) e ∙ ap (λ (v : List ℕ). print p v) (sym (digits_last k h))
+  pub last_digit : {q r : Page} (left : ℕ) → left ≢ 0 → n < 10 → q ≡ p → r ≡ put_byte q (48 + n % 10) → r ≡ print p (digits left n)
+  last_digit zero z h e g = absurd (z refl)
+  last_digit (suc k) z h e g =
+      let same : n % 10 ≡ n = omega arith in
+      one_byte p _ (g ∙ ap (λ (q : Page). put_byte q (48 + n % 10)) e) ∙ ap (λ (d : ℕ). print p (digit d)) same
+      ∙ ap (λ (v : List ℕ). print p v) (sym (digits_last k h))
 
   -- the digits before the last were printed, and its byte was put behind them
-  pub one_more_digit : {q r : Page} (left b : ℕ) → left ≢ 0 → 10 ≤ n → q ≡ print p (digits (left - 1) (n / 10)) → b ≡ 48 + n % 10 → r ≡ put_byte q b
+  pub one_more_digit : {q r : Page} (left : ℕ) → left ≢ 0 → 10 ≤ n → q ≡ print p (digits (left - 1) (n / 10)) → r ≡ put_byte q (48 + n % 10)
       → r ≡ print p (digits left n)
-  one_more_digit zero b z h e d g = absurd (z refl)
-  one_more_digit {q} {r} (suc k) b z h e d g =
+  one_more_digit zero z h e g = absurd (z refl)
+  one_more_digit {q} {r} (suc k) z h e g =
       let less : suc k - 1 ≡ k = omega arith in
       let before : q ≡ print p (digits k (n / 10)) = e ∙ ap (λ (j : ℕ). print p (digits j (n / 10))) less in
-      let last : r ≡ print q (digit (n % 10)) = one_byte q b g ∙ ap (λ (d : ℕ). print q (d ∷ [])) d in
-      then p _ _ before last ∙ ap (λ (v : List ℕ). print p v) (sym (digits_on k h))
+      then p _ _ before (one_byte q _ g) ∙ ap (λ (v : List ℕ). print p v) (sym (digits_on k h))

@@ -1,13 +1,12 @@
 -- Printing goes on where it stopped.
 use Prim.Native.Nat.{ℕ, ◌+◌, ◌<◌, ◌≤◌}
-use native.Mathlib.Nat.{le_antisymm}
 use native.Mathlib.Numerals.{add-one}
 use native.Mathlib.Omega.{arith}
 use mathlib.Core.List.{List, [], ◌∷◌, ◌++◌}
 use mathlib.Core.Path.{◌≡◌, refl, sym, ◌∙◌, ap, subst}
 use lib.Dec.{ltb}
 use lib.ListN.{length, get_or, take, set as store_at, length-set}
-use lib.Seq.{take-suc, take-length, length-take-le}
+use lib.Seq.{take-suc, length-take-le}
 use borrow.Author.Tests.{lt-ltb, le-ltb, ltb-true}
 use Rattle.model.proofs.Branches.{if-true, if-false}
 use Rattle.model.proofs.Cases.{if-ind}
@@ -45,10 +44,6 @@ nothing p = refl
 pub more : (p : Page) {q r : Page} (w : List ℕ) (k : ℕ) → k < length w → q ≡ print p (take k w) → r ≡ put_byte q (get_or w k 0) → r ≡ print p (take (k + 1) w)
 more p w k h e g =
     then p (take k w) _ e (one_byte _ _ g) ∙ ap (λ (v : List ℕ). print p v) (sym (take-suc w k 0 h)) ∙ ap (λ (j : ℕ). print p (take j w)) (sym (add-one k))
-
--- all bytes of a text
-pub all : (p : Page) {q : Page} (w : List ℕ) (k : ℕ) → k ≤ length w → length w ≤ k → q ≡ print p (take k w) → q ≡ print p w
-all p w k l g h = h ∙ ap (λ (j : ℕ). print p (take j w)) (le_antisymm l g) ∙ ap (λ (v : List ℕ). print p v) (take-length w)
 
 -- a text that is another's
 pub same_text : (p : Page) {q : Page} (v w : List ℕ) → v ≡ w → q ≡ print p v → q ≡ print p w

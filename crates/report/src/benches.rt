@@ -3,13 +3,16 @@ ghost use Rattle.std.specs.Prelude.{◌≡◌, not, ◌<◌, ◌≤◌, eqb, len
 ghost use Rattle.tables.specs.Layout.{words_need, orders_need};
 ghost use Rattle.tables.specs.Bounds.{Bounds};
 ghost use Rattle.tables.specs.View.{log_in};
-ghost use Rattle.files.specs.Page.{page, print};
+ghost use Rattle.tables.specs.Lent.{held};
+ghost use Rattle.files.specs.Page.{shown, print, SameReport};
 ghost use Rattle.files.specs.Lines.{entry_text, entries_text, light, bench_in, benches_in};
 
 use crate::pieces::{put_decimal, put_text};
 use cells::records::load;
+use files::Report;
 use layout::{has_row, log_place};
 use model::Numbers;
+use tables::Memory;
 
 fn entry_at(numbers: Numbers, c: usize, s: usize, orders: &[u64]) -> u64
     requires { (Bounds numbers) × (c < numbers.n) × (orders_need numbers ≤ length orders.now) }
@@ -21,84 +24,59 @@ fn entry_at(numbers: Numbers, c: usize, s: usize, orders: &[u64]) -> u64
     0
 }
 
-fn put_light(crashed: u16, report: &mut [u8], at: usize) -> usize
-    ensures { page report.new result ≡ print (page report.old at) (light (not (eqb crashed 0))) }
+fn put_light(crashed: u16, report: &mut Report)
+    ensures same { SameReport report.old report.new }
+    ensures text { shown report.new ≡ print (shown report.old) (light (not (eqb crashed 0))) }
 {
     if crashed == 0 {
-        return put_text(b" lit ", report, at);
+        put_text(b" lit ", report);
+    } else {
+        put_text(b" dark ", report);
     }
-    put_text(b" dark ", report, at)
 }
 
-fn put_entry(x: u64, report: &mut [u8], at: usize) -> usize
-    ensures { page report.new result ≡ print (page report.old at) (entry_text x) }
+fn put_entry(x: u64, report: &mut Report)
+    ensures same { SameReport report.old report.new }
+    ensures text { shown report.new ≡ print (shown report.old) (entry_text x) }
 {
     if x == 0 {
-        return put_text(b" -", report, at);
+        put_text(b" -", report);
+    } else {
+        put_text(b" ", report);
+        put_decimal(x, report);
     }
-    let space = put_text(b" ", report, at);
-    put_decimal(x, report, space)
 }
 
-fn put_entries(
-    numbers: Numbers,
-    c: usize,
-    closed: usize,
-    orders: &[u64],
-    report: &mut [u8],
-    at: usize,
-) -> usize
+fn put_entries(numbers: Numbers, c: usize, closed: usize, orders: &[u64], report: &mut Report)
     requires { (Bounds numbers) × (c < numbers.n) × (orders_need numbers ≤ length orders.now) }
-    ensures { let log = log_in numbers orders.now c in
-        page report.new result ≡ print (page report.old at) (entries_text closed log) }
+    ensures same { SameReport report.old report.new }
+    ensures text { shown report.new ≡ print (shown report.old) (entries_text closed (log_in numbers orders.now c)) }
 {
-    let mut end = at;
-    let mut s = 0;
-    while s < closed {
-        let x = entry_at(numbers, c, s, orders);
-        end = put_entry(x, report, end);
-        s += 1;
+    for s in 0..closed {
+        put_entry(entry_at(numbers, c, s, orders), report);
     }
-    end
 }
 
-fn put_bench(
-    numbers: Numbers,
-    c: usize,
-    words: &[u16],
-    orders: &[u64],
-    report: &mut [u8],
-    at: usize,
-) -> usize
+fn put_bench(numbers: Numbers, c: usize, words: &[u16], orders: &[u64], report: &mut Report)
     requires { (Bounds numbers) × (c < numbers.n) × (words_need numbers ≤ length words.now) × (orders_need numbers ≤ length orders.now) }
-    ensures { let line = bench_in numbers words.now orders.now c in
-        page report.new result ≡ print (page report.old at) line }
+    ensures same { SameReport report.old report.new }
+    ensures text { shown report.new ≡ print (shown report.old) (bench_in numbers words.now orders.now c) }
 {
     let k = load(words, c);
-    let bench = put_text(b"bench ", report, at);
-    let number = put_decimal(c as u64, report, bench);
-    let lit = put_light(k.crashed, report, number);
-    let count = put_decimal(k.slot as u64, report, lit);
-    let entries = put_entries(numbers, c, k.slot as usize, orders, report, count);
-    put_text(b"\n", report, entries)
+    put_text(b"bench ", report);
+    put_decimal(c as u64, report);
+    put_light(k.crashed, report);
+    put_decimal(k.slot as u64, report);
+    put_entries(numbers, c, k.slot as usize, orders, report);
+    put_text(b"\n", report);
 }
 
-pub fn put_benches(
-    numbers: Numbers,
-    words: &[u16],
-    orders: &[u64],
-    report: &mut [u8],
-    at: usize,
-) -> usize
-    requires { (Bounds numbers) × (words_need numbers ≤ length words.now) × (orders_need numbers ≤ length orders.now) }
-    ensures { let lines = benches_in numbers words.now orders.now numbers.n in
-        page report.new result ≡ print (page report.old at) lines }
+pub fn put_benches(numbers: Numbers, memory: &Memory, report: &mut Report)
+    requires { (Bounds numbers) × (words_need numbers ≤ length memory.now.words.now) × (orders_need numbers ≤ length memory.now.orders.now) }
+    ensures same { SameReport report.old report.new }
+    ensures text { let t = held memory.now in shown report.new ≡ print (shown report.old) (benches_in numbers t.words t.orders numbers.n) }
 {
-    let mut end = at;
-    let mut c = 0;
-    while c < numbers.n {
-        end = put_bench(numbers, c, words, orders, report, end);
-        c += 1;
+    for c in 0..numbers.n {
+        put_bench(numbers, c, memory.words, memory.orders, report);
     }
-    end
 }

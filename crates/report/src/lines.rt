@@ -1,28 +1,30 @@
 // The lines of what records were answered.
 ghost use Rattle.std.specs.Prelude.{◌≡◌};
-ghost use Rattle.files.specs.Page.{page, print};
+ghost use Rattle.files.specs.Page.{shown, print, SameReport};
 ghost use Rattle.files.specs.Lines.{opened_line, refused_line};
 
 use crate::pieces::{put_decimal, put_text};
+use files::Report;
 use model::{Numbers, Refusal};
-use values::answers::refusal_number;
 
-pub fn put_opened(numbers: Numbers, report: &mut [u8], at: usize) -> usize
-    ensures { page report.new result ≡ print (page report.old at) (opened_line numbers) }
+pub fn put_opened(numbers: Numbers, report: &mut Report)
+    ensures same { SameReport report.old report.new }
+    ensures text { shown report.new ≡ print (shown report.old) (opened_line numbers) }
 {
-    let controllers = put_text(b"controllers ", report, at);
-    let n = put_decimal(numbers.n as u64, report, controllers);
-    let spare = put_text(b" spare ", report, n);
-    let f = put_decimal(numbers.f as u64, report, spare);
-    put_text(b"\n", report, f)
+    put_text(b"controllers ", report);
+    put_decimal(numbers.n as u64, report);
+    put_text(b" spare ", report);
+    put_decimal(numbers.f as u64, report);
+    put_text(b"\n", report);
 }
 
-pub fn put_refused(k: usize, why: Refusal, report: &mut [u8], at: usize) -> usize
-    ensures { page report.new result ≡ print (page report.old at) (refused_line k why) }
+pub fn put_refused(k: usize, why: Refusal, report: &mut Report)
+    ensures same { SameReport report.old report.new }
+    ensures text { shown report.new ≡ print (shown report.old) (refused_line k why) }
 {
-    let refused = put_text(b"refused ", report, at);
-    let number = put_decimal(k as u64, report, refused);
-    let space = put_text(b" ", report, number);
-    let refusal = put_decimal(refusal_number(why) as u64, report, space);
-    put_text(b"\n", report, refusal)
+    put_text(b"refused ", report);
+    put_decimal(k as u64, report);
+    put_text(b" ", report);
+    put_decimal(usize::from(why) as u64, report);
+    put_text(b"\n", report);
 }

@@ -1,54 +1,48 @@
-// Bytes, texts and numbers. Each function answers where the next piece goes; what the buffer has no room for is left out.
+// Bytes, texts and numbers. What the buffer has no room for is left out.
 ghost use Rattle.std.specs.Prelude.{◌≡◌, ◌+◌, ◌<◌, ◌≤◌};
 ghost use Rattle.files.specs.Text.{digits, decimal};
-ghost use Rattle.files.specs.Page.{page, put_byte, print};
+ghost use Rattle.files.specs.Page.{shown, put_byte, print, SameReport};
 
-pub fn put(byte: u8, report: &mut [u8], at: usize) -> usize
-    ensures { page report.new result ≡ put_byte (page report.old at) byte }
+use files::Report;
+
+pub fn put(byte: u8, report: &mut Report)
+    ensures same { SameReport report.old report.new }
+    ensures text { shown report.new ≡ put_byte (shown report.old) byte }
 {
-    if at < report.len() {
-        report[at] = byte;
-        return at + 1;
+    if report.written < report.bytes.len() {
+        report.bytes[report.written] = byte;
+        report.written += 1;
     }
-    at
 }
 
-pub fn put_text(word: &[u8], report: &mut [u8], at: usize) -> usize
-    ensures { page report.new result ≡ print (page report.old at) word.now }
+pub fn put_text(word: &[u8], report: &mut Report)
+    ensures same { SameReport report.old report.new }
+    ensures text { shown report.new ≡ print (shown report.old) word.now }
 {
-    let mut end = at;
-    let mut i = 0;
-    while i < word.len() {
-        end = put(word[i], report, end);
-        i += 1;
+    for &byte in word {
+        put(byte, report);
     }
-    end
-}
-
-fn digit(d: u64) -> u8
-    requires { d < 10 }
-    ensures { result ≡ 48 + d }
-{
-    48 + d as u8
 }
 
 // The highest digit first.
-fn put_digits(left: usize, n: u64, report: &mut [u8], at: usize) -> usize
+fn put_digits(left: usize, n: u64, report: &mut Report)
     requires { left ≤ 20 }
-    ensures { page report.new result ≡ print (page report.old at) (digits left n) }
+    ensures same { SameReport report.old report.new }
+    ensures text { shown report.new ≡ print (shown report.old) (digits left n) }
 {
     if left == 0 {
-        return at;
+        return;
     }
-    if n < 10 {
-        return put(digit(n), report, at);
+    if 10 <= n {
+        put_digits(left - 1, n / 10, report);
     }
-    let end = put_digits(left - 1, n / 10, report, at);
-    put(digit(n % 10), report, end)
+    put(b'0' + (n % 10) as u8, report);
 }
 
-pub fn put_decimal(n: u64, report: &mut [u8], at: usize) -> usize
-    ensures { page report.new result ≡ print (page report.old at) (decimal n) }
+// No `Display`: `write!` promises its bytes for a String alone, which needs a heap, and each byte is promised here.
+pub fn put_decimal(n: u64, report: &mut Report)
+    ensures same { SameReport report.old report.new }
+    ensures text { shown report.new ≡ print (shown report.old) (decimal n) }
 {
-    put_digits(20, n, report, at)
+    put_digits(20, n, report);
 }

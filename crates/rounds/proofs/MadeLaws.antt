@@ -1,30 +1,47 @@
 -- Steps that are made one after another: list after list, replica after replica, and that the memories stay fine.
-use Prim.Native.Nat.{ℕ, ◌+◌}
+use Prim.Native.Nat.{ℕ, ◌+◌, ◌≤◌}
 use native.Mathlib.Omega.{arith}
 use native.Mathlib.Numerals.{add-one}
 use mathlib.Core.Bool.{Bool, true, false}
+use mir.Val.{bool_byte}
+use Rattle.std.specs.Prelude.{Result, Ok, Err, is_ok}
 use mathlib.Core.List.{List, [], ◌∷◌, ◌++◌}
 use mathlib.Core.Path.{◌≡◌, refl, sym, ◌∙◌, ap, subst}
 use Rattle.model.specs.declared.Numbers.{Numbers}
 use Rattle.model.specs.declared.Effect.{Effect}
-use Rattle.model.specs.declared.Effect.TheVariants.{Refuse, Hold, Send, Close, Seek, Receive, Halt}
+use Rattle.model.specs.declared.Effect.TheVariants.{Refuse}
 use Rattle.model.specs.declared.Act.TheVariants.{Begin}
 use Rattle.model.specs.declared.Step.{Step}
 use Rattle.model.specs.declared.Answer.{Answer}
-use Rattle.model.specs.declared.Answer.TheVariants.{Done}
-use Rattle.model.specs.Tests.{if, bit}
-use Rattle.model.specs.Conductor.{for_each, does, round_steps, phase_steps, slot_steps}
+use Rattle.model.specs.declared.Answer.TheVariants.{Refused, Done}
+use Rattle.model.specs.declared.Refusal.{Refusal}
+use Rattle.model.specs.Tests.{bit}
+use Rattle.model.specs.Answers.{answer_in}
+use Rattle.model.specs.Conductor.{for_each, does, round_steps, slot_steps}
 use Rattle.model.specs.Scripts.{Stage, Played, ended, play, accepted, answered, after_all, accepted_of}
-use Rattle.model.proofs.Branches.{if-true, if-false}
-use Rattle.model.proofs.Sequences.{after_then, accepted_then, after_one, accepted_one}
+use Rattle.model.proofs.Sequences.{after_then, accepted_then, after_more, after_past, accepted_more, accepted_past, after_one, accepted_one}
 use Rattle.tables.specs.Layout.{Tables}
 use Rattle.tables.specs.Calls.{judge, on_tables, stepped}
-use Rattle.rounds.specs.Made.{accepts, Made}
+use Rattle.rounds.specs.Made.{Made}
+
+-- an answer that is no refusal
+abbrev pub accepts : Answer → Bool
+accepts (Refused why) = false
+accepts _ = true
 
 -- an accepted step is answered so
 answered_accepts : (e : Effect) → accepts (answered Done e) ≡ accepted e
-answered_accepts =
-    elim [ Refuse why ↦ refl | Hold x ↦ refl | Send so p w ↦ refl | Close x own ↦ refl | Seek ↦ refl | Receive so s p d w ↦ refl | Halt ↦ refl ]
+answered_accepts (Refuse why) = refl
+answered_accepts _ = refl
+
+-- the number that the code counts it by
+pub low_byte : (b : Bool) → bool_byte b ≤ 1
+low_byte true = omega arith
+low_byte false = omega arith
+
+pub ok_counts : (r : Result (Unit {0}) Refusal) → bool_byte (is_ok r) ≡ bit (accepts (answer_in (λ _. Done) r))
+ok_counts (Ok _) = refl
+ok_counts (Err why) = refl
 
 module _ (N : Numbers) (strip : List ℕ) where
   abbrev w : Stage Tables
@@ -51,31 +68,33 @@ module _ (N : Numbers) (strip : List ℕ) where
     left = b.left ∙ ap (after_all w ys) a.left ∙ sym (after_then w xs ys t);
   }
 
-  -- steps that a test allows, or that it passes over
-  pub made_if : {b : Bool} {steps : List Step} {t u : Tables} {k : ℕ} → b ≡ true → Made N strip steps t u k → Made N strip (if b steps []) t u k
-  made_if {steps = steps} {t} {u} {k} e m = subst (λ (l : List Step). Made N strip l t u k) (sym (if-true steps [] e)) m
-
-  pub made_unless : {b : Bool} (steps : List Step) (t : Tables) → b ≡ false → Made N strip (if b steps []) t t 0
-  made_unless steps t e = subst (λ (l : List Step). Made N strip l t t 0) (sym (if-false steps [] e)) (made_none t)
-
   module _ (ok : ℕ → Bool) (steps : ℕ → List Step) where
     -- no replica yet, and one more
     pub made_start : (t : Tables) → Made N strip (for_each 0 ok steps) t t 0
     unfolding for_each
     made_start t = made_none t
 
-    pub made_more : (i : ℕ) {t u v : Tables} {j k : ℕ} → Made N strip (for_each i ok steps) t u j → Made N strip (if (ok i) (steps i) []) u v k
-        → Made N strip (for_each (i + 1) ok steps) t v (j + k)
-    unfolding for_each
-    made_more i {t} {u} {v} {j} {k} a b =
-        subst (λ (m : ℕ). Made N strip (for_each m ok steps) t v (j + k)) (sym (add-one i)) (made_then a b)
+    module _ (i : ℕ) {t u : Tables} {j : ℕ} (before : Made N strip (for_each i ok steps) t u j) where
+      pub made_more : ok i ≡ true → {v : Tables} {k : ℕ} → Made N strip (steps i) u v k → Made N strip (for_each (i + 1) ok steps) t v (j + k)
+      made_more e {v} {k} m = record {
+        counted = (let p = before.counted in let q = m.counted ∙ ap (accepted_of w (steps i)) before.left in
+            rw (add-one i, accepted_more w ok steps i t e) (omega arith));
+        left = rw (add-one i) (m.left ∙ ap (after_all w (steps i)) before.left ∙ sym (after_more w ok steps i t e));
+      }
 
-    -- all of them
-    pub made_all : {i n : ℕ} {t u : Tables} {j : ℕ} → i ≡ n → Made N strip (for_each i ok steps) t u j → Made N strip (for_each n ok steps) t u j
-    made_all {t = t} {u} {j} e m = subst (λ (k : ℕ). Made N strip (for_each k ok steps) t u j) e m
+      -- a step that is refused
+      pub made_idle : ok i ≡ true → {v : Tables} → Made N strip (steps i) u v 0 → Made N strip (for_each (i + 1) ok steps) t v j
+      made_idle e {v} m = subst (Made N strip (for_each (i + 1) ok steps) t v) (omega arith) (made_more e m)
 
-  -- the begins and then the rounds
-  pub made_slot : (n : ℕ) (lit : ℕ → Bool) (s : ℕ) {t u v : Tables} {j k : ℕ} → Made N strip (for_each n lit (does Begin)) t u j
-      → Made N strip (round_steps n lit s 1 0 ++ phase_steps n lit s) u v k → Made N strip (slot_steps n lit s) t v (j + k)
-  unfolding slot_steps
-  made_slot n lit s a b = made_then a b
+      pub made_past : ok i ≡ false → Made N strip (for_each (i + 1) ok steps) t u j
+      made_past e = record {
+        counted = rw (add-one i) (before.counted ∙ sym (accepted_past w ok steps i t e));
+        left = rw (add-one i) (before.left ∙ sym (after_past w ok steps i t e));
+      }
+
+  -- the begins, and then the rounds
+  module _ (n : ℕ) (lit : ℕ → Bool) (s : ℕ) {t u v x y : Tables} {j k l m : ℕ} where
+    pub made_slot : Made N strip (for_each n lit (does Begin)) t u j → Made N strip (round_steps n lit s 1 0) u v k
+        → Made N strip (round_steps n lit s 2 1) v x l → Made N strip (round_steps n lit s 3 1) x y m → Made N strip (slot_steps n lit s) t y (j + k + l + m)
+    unfolding slot_steps
+    made_slot a b c d = subst (Made N strip (slot_steps n lit s) t y) (omega arith) (made_then a (made_then b (made_then c d)))

@@ -1,20 +1,14 @@
 -- Steps that are made one after another on the memories, and what those that make them ask.
-use Rattle.std.specs.Prelude.{ℕ, ◌+◌, ◌*◌, ◌<◌, Bool, true, false, List, ◌≡◌}
+use Rattle.std.specs.Prelude.{ℕ, ◌+◌, ◌*◌, ◌<◌, true, false, List, ◌≡◌}
 use Rattle.model.specs.declared.Numbers.{Numbers}
 use Rattle.model.specs.declared.Sort.{Sort}
 use Rattle.model.specs.declared.Step.{Step}
-use Rattle.model.specs.declared.Answer.{Answer}
-use Rattle.model.specs.declared.Answer.TheVariants.{Refused, Done, Ran, Opened, Conducted}
 use Rattle.model.specs.Limits.{most_replicas}
 use Rattle.model.specs.Rules.{phase_in, strip_short}
 use Rattle.model.specs.Scripts.{after_all, accepted_of}
 use Rattle.tables.specs.Layout.{Tables, has_bit, record_at}
 use Rattle.tables.specs.Sound.{Sound}
 use Rattle.tables.specs.Calls.{on_tables}
-
--- an answer that is no refusal
-abbrev pub accepts : Answer → Bool
-accepts = elim [ Refused why ↦ false | Done ↦ true | Ran k ↦ true | Opened N ↦ true | Conducted k m ↦ true ]
 
 -- of these steps r are accepted, and they leave u
 pub record Made (N : Numbers) (strip : List ℕ) (steps : List Step) (t u : Tables) (r : ℕ) : Type 0 where

@@ -4,26 +4,29 @@
 mod rounds;
 
 ghost use Rattle.std.specs.Prelude.{◌≡◌, ◌<◌, ◌≤◌, eqb, length};
-ghost use Rattle.model.specs.Scripts.{ended};
+ghost use Rattle.model.specs.declared.Answer.TheVariants.{Ran};
 ghost use Rattle.model.specs.declared.Round.TheVariants.{State};
+ghost use Rattle.model.specs.Answers.{answer_in};
 ghost use Rattle.model.specs.Rack.{round_number};
+ghost use Rattle.model.specs.Scripts.{ended};
 ghost use Rattle.tables.specs.Layout.{mask_bits, record_at, record_end};
 ghost use Rattle.tables.specs.Calls.{ran_on};
-ghost use Rattle.tables.specs.Lent.{moments};
+ghost use Rattle.tables.specs.Lent.{held, Same};
 
 use cells::records::load;
-use model::{Answer, Numbers, ReplicaId};
+use model::{Numbers, Refusal, ReplicaId, Round};
+use refusals::admit;
 use rounds::{goes_on, run_state, run_vote, stopped};
 use steps::advances::advance_once;
-use tables::STATE;
+use tables::Memory;
 
 // Whether the record says so: the further advances start with its rule.
-fn in_state_round(who: usize, words: &[u16]) -> bool
-    requires { (who < mask_bits) × (record_end who ≤ length words.now) }
-    ensures { result ≡ eqb (record_at words.now who).round (round_number State) }
+fn in_state_round(who: usize, memory: &Memory) -> bool
+    requires { (who < mask_bits) × (record_end who ≤ length (held memory.now).words) }
+    ensures { result ≡ eqb (record_at (held memory.now).words who).round (round_number State) }
 {
-    let k = load(words, who);
-    k.round == STATE
+    let k = load(memory.words, who);
+    k.round == u16::from(Round::State)
 }
 
 // "If the first advance is refused, so is the step. The answer is the count of accepted advances." The further ones start with
@@ -31,22 +34,21 @@ fn in_state_round(who: usize, words: &[u16]) -> bool
 pub fn run_on(
     numbers: Numbers,
     who: ReplicaId,
-    words: &mut [u16],
-    orders: &mut [u64],
-    ballots: &mut [u8],
+    memory: &mut Memory,
     strip: &[u8],
-) -> Answer
-    ensures { let t = moments words orders ballots in
-        ended result t.exit ≡ ran_on numbers strip.now who t.entry }
+) -> Result<usize, Refusal>
+    ensures same { Same memory.old memory.new }
+    ensures outcome { ended (answer_in Ran result) (held memory.new) ≡ ran_on numbers strip.now who (held memory.old) }
 {
-    let first = advance_once(numbers, who, false, words, orders, ballots, strip);
+    admit(numbers, who.0, who.0, memory, strip.len())?;
+    let first = advance_once(numbers, who, Ok(()), memory, strip);
     if !goes_on(first) {
         return stopped(0, first);
     }
-    if in_state_round(who.0, words) {
+    if in_state_round(who.0, memory) {
         let left = numbers.phases + 2;
-        return run_state(numbers, who, left, 1, words, orders, ballots, strip);
+        return run_state(numbers, who, left, 1, memory, strip);
     }
     let left = numbers.phases + 3;
-    run_vote(numbers, who, left, 1, words, orders, ballots, strip)
+    run_vote(numbers, who, left, 1, memory, strip)
 }

@@ -2,16 +2,15 @@
 ghost use Rattle.std.specs.Prelude.{◌≡◌};
 ghost use Rattle.shelf.specs.Calls.{to_planes as planes_of, to_entries as entries_of};
 
+use crate::number_of;
 use archive::{to_entries, to_planes};
-use values::answers::number_of;
 
 #[unsafe(no_mangle)]
 pub extern "C" fn rushhopper_to_planes(entries: &[u64], stored: &mut [u8]) -> usize
     ensures { let o = planes_of entries.now stored.old in
         (result ≡ o.number) × (stored.new ≡ o.state) }
 {
-    let answer = to_planes(entries, stored);
-    number_of(answer)
+    number_of(&to_planes(entries, stored))
 }
 
 #[unsafe(no_mangle)]
@@ -19,6 +18,5 @@ pub extern "C" fn rushhopper_to_entries(stored: &[u8], entries: &mut [u64]) -> u
     ensures { let o = entries_of stored.now entries.old in
         (result ≡ o.number) × (entries.new ≡ o.state) }
 {
-    let answer = to_entries(stored, entries);
-    number_of(answer)
+    number_of(&to_entries(stored, entries))
 }

@@ -1,23 +1,23 @@
 // Strips, openings, run on, the conductor and whole step files for callers in C, as the calls of the same names.
 ghost use Rattle.std.specs.Prelude.{◌≡◌};
 ghost use Rattle.model.specs.Tests.{bit};
-ghost use Rattle.model.specs.declared.Answer.TheVariants.{Ran as RanSo, Opened as OpenedSo, Conducted as ConductedSo};
-ghost use Rattle.model.specs.Answers.{answer_values};
 ghost use Rattle.tables.specs.Calls.{ran_on, conducted, open_rack};
 ghost use Rattle.tables.specs.Lent.{moments};
 ghost use Rattle.coin.specs.Strip.{strip_filled};
+ghost use Rattle.files.specs.Found.{is_opened, run_numbers};
 ghost use Rattle.files.specs.Page.{page, print};
 ghost use Rattle.files.specs.Reported.{whole, report as report_of};
 ghost use Rattle.rushhopper.specs.Values.{value, numbers_in};
 
+use crate::number_of;
 use coin::fill_strip;
-use conduct::conduct;
-use model::{Answer, Numbers, Plan, ReplicaId};
+use conduct::{Conducted as Counts, conduct};
+use files::Report;
+use model::{Numbers, Plan, ReplicaId};
 use opening::open;
 use runs::run_on;
 use session::play;
-use values::answers::number_of;
-use values::one_if;
+use tables::Memory;
 
 // The numbers of the run that was opened; all 0 after a refusal.
 #[repr(C)]
@@ -53,73 +53,6 @@ pub struct PlayedFile {
     pub numbers: Numbers,
 }
 
-fn count_at(count: usize, i: usize) -> usize
-    ensures { result ≡ value i (answer_values (RanSo count)) }
-{
-    if i == 0 {
-        return count;
-    }
-    0
-}
-
-fn number_at(numbers: Numbers, i: usize) -> usize
-    ensures { result ≡ value i (answer_values (OpenedSo numbers)) }
-{
-    if i == 0 {
-        return numbers.n;
-    }
-    if i == 1 {
-        return numbers.f;
-    }
-    if i == 2 {
-        return numbers.slots;
-    }
-    if i == 3 {
-        return numbers.phases;
-    }
-    if i == 4 {
-        return numbers.room;
-    }
-    0
-}
-
-fn both_at(steps: usize, relays: usize, i: usize) -> usize
-    ensures { result ≡ value i (answer_values (ConductedSo steps relays)) }
-{
-    if i == 0 {
-        return steps;
-    }
-    if i == 1 {
-        return relays;
-    }
-    0
-}
-
-// An answer's value at a place, 0 where it has none.
-fn value_at(answer: Answer, i: usize) -> usize
-    ensures { result ≡ value i (answer_values answer) }
-{
-    match answer {
-        Answer::Refused(_) => 0,
-        Answer::Done => 0,
-        Answer::Ran(count) => count_at(count, i),
-        Answer::Opened(numbers) => number_at(numbers, i),
-        Answer::Conducted { steps, relays } => both_at(steps, relays, i),
-    }
-}
-
-fn numbers_in(answer: Answer) -> Numbers
-    ensures { result ≡ numbers_in (answer_values answer) }
-{
-    Numbers {
-        n: value_at(answer, 0),
-        f: value_at(answer, 1),
-        slots: value_at(answer, 2),
-        phases: value_at(answer, 3),
-        room: value_at(answer, 4),
-    }
-}
-
 #[unsafe(no_mangle)]
 pub extern "C" fn rushhopper_fill_strip(
     slots: usize,
@@ -130,8 +63,7 @@ pub extern "C" fn rushhopper_fill_strip(
     ensures { let o = strip_filled slots phases start strip.old in
         (result ≡ o.number) × (strip.new ≡ o.strip) }
 {
-    let answer = fill_strip(slots, phases, start, strip);
-    number_of(answer)
+    number_of(&fill_strip(slots, phases, start, strip))
 }
 
 #[unsafe(no_mangle)]
@@ -147,10 +79,15 @@ pub extern "C" fn rushhopper_open(
         let o = open_rack (record { numbers = numbers; start = start }) t.entry strip.old in
         (result.refusal ≡ o.number) × (result.numbers ≡ numbers_in o.values) × (t.exit ≡ o.tables) × (strip.new ≡ o.strip) }
 {
-    let answer = open(Plan { numbers, start }, words, orders, ballots, strip);
+    let mut memory = Memory {
+        words,
+        orders,
+        ballots,
+    };
+    let opened = open(Plan { numbers, start }, &mut memory, strip);
     Opened {
-        refusal: number_of(answer),
-        numbers: numbers_in(answer),
+        refusal: number_of(&opened),
+        numbers: opened.unwrap_or_default(),
     }
 }
 
@@ -167,10 +104,15 @@ pub extern "C" fn rushhopper_run_on(
         let o = ran_on numbers strip.now who t.entry in
         (result.refusal ≡ o.number) × (result.advances ≡ value 0 o.values) × (t.exit ≡ o.state) }
 {
-    let answer = run_on(numbers, who, words, orders, ballots, strip);
+    let mut memory = Memory {
+        words,
+        orders,
+        ballots,
+    };
+    let ran = run_on(numbers, who, &mut memory, strip);
     Ran {
-        refusal: number_of(answer),
-        advances: value_at(answer, 0),
+        refusal: number_of(&ran),
+        advances: ran.unwrap_or(0),
     }
 }
 
@@ -186,11 +128,17 @@ pub extern "C" fn rushhopper_conduct(
         let o = conducted numbers strip.now t.entry in
         (result.refusal ≡ o.number) × (result.steps ≡ value 0 o.values) × (result.relays ≡ value 1 o.values) × (t.exit ≡ o.state) }
 {
-    let answer = conduct(numbers, words, orders, ballots, strip);
+    let mut memory = Memory {
+        words,
+        orders,
+        ballots,
+    };
+    let conducted = conduct(numbers, &mut memory, strip);
+    let Counts { steps, relays } = conducted.unwrap_or_default();
     Conducted {
-        refusal: number_of(answer),
-        steps: value_at(answer, 0),
-        relays: value_at(answer, 1),
+        refusal: number_of(&conducted),
+        steps,
+        relays,
     }
 }
 
@@ -206,17 +154,23 @@ pub extern "C" fn rushhopper_play(
 ) -> PlayedFile
     ensures { let t = moments words orders ballots in
         let x = whole most file.now t.entry strip.old in
-        (result.opened ≡ bit x.player.opened) × (result.numbers ≡ x.player.numbers) × (t.exit ≡ x.tables) × (strip.new ≡ x.strip)
+        (result.opened ≡ bit (is_opened x.player.opened)) × (result.numbers ≡ run_numbers x.player.opened) × (t.exit ≡ x.tables) × (strip.new ≡ x.strip)
         × (page report.new result.written
         ≡ print (page report.old 0) (report_of most file.now t.entry strip.old)) }
 {
-    let session = play(most, file, report, words, orders, ballots, strip);
-    let last = session.last;
-    let player = last.player;
-    let numbers = player.numbers;
+    let mut memory = Memory {
+        words,
+        orders,
+        ballots,
+    };
+    let mut out = Report {
+        bytes: report,
+        written: 0,
+    };
+    let opened = play(most, file, &mut out, &mut memory, strip).player.opened;
     PlayedFile {
-        written: session.written,
-        opened: one_if(player.opened),
-        numbers,
+        written: out.written,
+        opened: usize::from(opened.is_some()),
+        numbers: opened.unwrap_or_default(),
     }
 }

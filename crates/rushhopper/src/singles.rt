@@ -4,10 +4,11 @@ ghost use Rattle.model.specs.declared.Act.TheVariants.{Submit, Relay, Begin, Hea
 ghost use Rattle.tables.specs.Calls.{stepped};
 ghost use Rattle.tables.specs.Lent.{moments};
 
+use crate::number_of;
 use acts::{begin, hear, relay, submit};
 use model::{Message, Numbers, PhaseIndex, ReplicaId, SlotIndex};
 use steps::advances::advance;
-use values::answers::number_of;
+use tables::Memory;
 
 // "The tag becomes known, if it wasn't, and this controller holds it."
 #[unsafe(no_mangle)]
@@ -24,8 +25,12 @@ pub extern "C" fn rushhopper_submit(
         let o = stepped numbers strip.now (record { who = who; act = Submit tag }) t.entry in
         (result ≡ o.number) × (t.exit ≡ o.state) }
 {
-    let answer = submit(numbers, who, tag, words, orders, ballots, strip);
-    number_of(answer)
+    let mut memory = Memory {
+        words,
+        orders,
+        ballots,
+    };
+    number_of(&submit(numbers, who, tag, &mut memory, strip))
 }
 
 // "A known tag is held by one more controller."
@@ -43,8 +48,12 @@ pub extern "C" fn rushhopper_relay(
         let o = stepped numbers strip.now (record { who = who; act = Relay tag }) t.entry in
         (result ≡ o.number) × (t.exit ≡ o.state) }
 {
-    let answer = relay(numbers, who, tag, words, orders, ballots, strip);
-    number_of(answer)
+    let mut memory = Memory {
+        words,
+        orders,
+        ballots,
+    };
+    number_of(&relay(numbers, who, tag, &mut memory, strip))
 }
 
 // "An idle controller proposes" its first-ranked pending tag "and enters the exchange."
@@ -61,8 +70,12 @@ pub extern "C" fn rushhopper_begin(
         let o = stepped numbers strip.now (record { who = who; act = Begin }) t.entry in
         (result ≡ o.number) × (t.exit ≡ o.state) }
 {
-    let answer = begin(numbers, who, words, orders, ballots, strip);
-    number_of(answer)
+    let mut memory = Memory {
+        words,
+        orders,
+        ballots,
+    };
+    number_of(&begin(numbers, who, &mut memory, strip))
 }
 
 // "The acting controller of a hear is the receiver."
@@ -90,8 +103,12 @@ pub extern "C" fn rushhopper_hear(
         phase,
         sender,
     };
-    let answer = hear(numbers, who, message, words, orders, ballots, strip);
-    number_of(answer)
+    let mut memory = Memory {
+        words,
+        orders,
+        ballots,
+    };
+    number_of(&hear(numbers, who, message, &mut memory, strip))
 }
 
 // By the rule of the replica's round.
@@ -108,6 +125,10 @@ pub extern "C" fn rushhopper_advance(
         let o = stepped numbers strip.now (record { who = who; act = Advance }) t.entry in
         (result ≡ o.number) × (t.exit ≡ o.state) }
 {
-    let answer = advance(numbers, who, words, orders, ballots, strip);
-    number_of(answer)
+    let mut memory = Memory {
+        words,
+        orders,
+        ballots,
+    };
+    number_of(&advance(numbers, who, &mut memory, strip))
 }

@@ -1,10 +1,10 @@
 -- The consensus argument, over the messages alone: no rack, no step and no call is spoken of. A board is grounded if each
 -- message on it has its grounds in others. On a grounded board the votes of a phase agree, a decision binds every later phase,
 -- and a slot that decides 1 has a tag that a majority proposed.
-use Rattle.std.specs.Prelude.{ℕ, suc, ◌+◌, ◌≤◌, ◌<◌, Bool, true, false, ◌≡◌}
+use Rattle.std.specs.Prelude.{ℕ, suc, ◌+◌, ◌≤◌, ◌<◌, Bool, true, false, ◌≡◌, Some, None}
 use Rattle.std.proofs.Common.{arith, sym, ap, subst}
 use Rattle.std.proofs.Math.Decide.{le_ind, dec_lt}
-use Rattle.safety.specs.Types.{Numbers, States, Votes, Unsent, Tag, Say, Unsure, Outcome, Undecided, Decided}
+use Rattle.safety.specs.Types.{Numbers, States, Votes, Unsent, Tag, Say, Unsure, Outcome}
 use Rattle.model.specs.Rack.{is, Messages}
 use Rattle.model.proofs.Cases.{clash, is_one, unsure_apart}
 use Rattle.model.proofs.Counting.{meet}
@@ -48,9 +48,9 @@ module _ (N : Numbers) where
               (votes_agree N m grounded) (deciding_vote N m grounded x) (subst (λ (q : ℕ). SomeSent m Votes s q (Say w)) e (deciding_vote N m grounded y))
 
       -- a vote round that ends later than a decision ends with the same
-      pub later_outcome : (s p q : ℕ) {v : Bool} (o : Outcome) → p < q → Decision N m s p v → Ended N m s q o → o ≡ Decided v
-      later_outcome s p q {v} (Decided w) l dec h = ap Decided (one_decision s q p h dec)
-      later_outcome s p q {v} Undecided l dec h = absurd (go v dec h)
+      pub later_outcome : (s p q : ℕ) {v : Bool} (o : Outcome) → p < q → Decision N m s p v → Ended N m s q o → o ≡ Some v
+      later_outcome s p q {v} (Some w) l dec h = ap Some (one_decision s q p h dec)
+      later_outcome s p q {v} None l dec h = absurd (go v dec h)
         where
           none : (v : Bool) → Decision N m s p v → OtherSent m Votes s q (Say v) → ⊥
           none v dec (Unsent, x, a, b) = clash a
@@ -58,7 +58,7 @@ module _ (N : Numbers) where
           none v dec (Say u, x, a, b) = b (ap Say ((binding s p v dec q l).says u x))
           none v dec (Unsure, x, a, b) = (binding s p v dec q l).sure x
 
-          go : (v : Bool) → Decision N m s p v → Ended N m s q Undecided → ⊥
+          go : (v : Bool) → Decision N m s p v → Ended N m s q None → ⊥
           go false dec h = none false dec h.0
           go true dec h = none true dec h.1
 

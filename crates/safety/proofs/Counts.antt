@@ -4,14 +4,14 @@
 use Prim.Native.Nat.{ℕ, suc, ◌+◌}
 use Rattle.std.proofs.Common.{arith, ◌∙◌, eq-eqb}
 use Rattle.std.proofs.Math.Decide.{ℕ_discrete}
-use Rattle.std.specs.Prelude.{Bool, not, ◌&&◌, ◌||◌, ◌≡◌}
+use Rattle.std.specs.Prelude.{Bool, not, ◌&&◌, ◌||◌, ◌≡◌, Some, None}
 use Rattle.std.proofs.Math.Bool.{true, false}
 use mathlib.Core.List.{List}
 use Rattle.std.proofs.Math.Path.{refl, sym, ap, ap₂, subst, subst₃}
 use Rattle.std.proofs.Math.Dec.{eqb}
 use Rattle.std.proofs.lemmas.Bool.{not-true}
 use Rattle.safety.specs.Types.{Numbers, Round, Vote, Find, Sort, Proposals, States, Votes, Word}
-use Rattle.safety.specs.Types.{Outcome, Undecided, Decided}
+use Rattle.safety.specs.Types.{Outcome}
 use Rattle.safety.specs.Types.{Effect, Hold, Send, Close, Seek, Receive, Halt, Act, Submit, Relay, Begin, Hear, Advance, Crash, Step}
 use Rattle.model.specs.Tests.{bit, count}
 use Rattle.model.specs.Rack.{same_round, same_outcome, is_sent, tag_of, Replica, Rack, closing, seeking, apply}
@@ -60,10 +60,10 @@ module _ (N : Numbers) (t : Taken) (c : ℕ) where
   by_votes = eqb t.step.who.0 c && (is_advance t.step.act && (not (is_sent (notice N k)) && same_round k.round Vote))
 
   abbrev decides : Bool
-  decides = by_votes && (same_outcome (Decided false) (outcome N k) || same_outcome (Decided true) (outcome N k))
+  decides = by_votes && (same_outcome (Some false) (outcome N k) || same_outcome (Some true) (outcome N k))
 
   abbrev reaches : ℕ → ℕ → Bool
-  reaches s p = completes N c s p (Decided false) t || completes N c s p (Decided true) t
+  reaches s p = completes N c s p (Some false) t || completes N c s p (Some true) t
 
   -- with what replica c had closed and reached before
   abbrev Tallies : (ℕ → Bool) → (ℕ → ℕ → Bool) → Replica → Type 0
@@ -91,9 +91,9 @@ module _ (N : Numbers) (r : Rack) (c : ℕ) {own : ℕ → Bool} {reached : ℕ 
         (and_first _ _ (and_none (eqb c c) _ (and_none (is_advance a) _ (and_none (not (is_sent (notice N was))) _ h))))
 
     -- of the vote round, without an outcome
-    sends_on : outcome N was ≡ Undecided → Ends a (Send so p w)
+    sends_on : outcome N was ≡ None → Ends a (Send so p w)
     sends_on h = sends N r c old a so p w away (and_none (by_votes N (taking a (Send so p w)) c) _
-        (ap (λ (o : Outcome). same_outcome (Decided false) o || same_outcome (Decided true) o) h))
+        (ap (λ (o : Outcome). same_outcome (Some false) o || same_outcome (Some true) o) h))
 
   seeks : Voting N was → decides N (taking Advance Seek) c ≡ true → Ends Advance Seek
   unfolding apply
@@ -115,7 +115,7 @@ module _ (N : Numbers) (r : Rack) (c : ℕ) {own : ℕ → Bool} {reached : ℕ 
         closed_now s = ap₂ (λ (a b : Bool). a && (eqb was.closed s && b)) (eq-eqb c c refl) (sym heeds)
 
   -- with the outcome that it reaches
-  shuts_by : (x : ℕ) (v : Bool) → Voting N was → outcome N was ≡ Decided v → Heeded N was (Close x true) → Ends Advance (Close x true)
+  shuts_by : (x : ℕ) (v : Bool) → Voting N was → outcome N was ≡ Some v → Heeded N was (Close x true) → Ends Advance (Close x true)
   shuts_by x v voting o heeds = shuts_slot x true heeds (λ _. or_left _ _ (reaches_outcome N r c old (Close x true) v voting o (not-true _ (sym heeds))))
 
   own_step : {a : Act} {e : Effect} → ByRule N r was a e → Heeded N was e → Ends a e

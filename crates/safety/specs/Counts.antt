@@ -3,13 +3,13 @@
 -- quorum.
 use Prim.Native.Nat.{ℕ, ◌≤◌}
 use Rattle.std.proofs.Common.{arith, ◌∙◌, eq-eqb, ne_eqb}
-use Rattle.std.specs.Prelude.{Bool, not, ◌&&◌, ◌||◌, ◌≢◌, ◌≡◌}
+use Rattle.std.specs.Prelude.{Bool, not, ◌&&◌, ◌||◌, ◌≢◌, ◌≡◌, Some}
 use Rattle.std.proofs.Math.Bool.{true, false}
 use mathlib.Core.List.{◌∷◌}
 use Rattle.std.proofs.Math.Path.{refl, sym, ap, ap₂, subst, subst₃}
 use Rattle.std.proofs.Math.Dec.{eqb}
 use Rattle.safety.specs.Types.{Numbers, Round, Vote, Find, Sort, Proposals, States, Votes, Notices, Word}
-use Rattle.safety.specs.Types.{Outcome, Decided}
+use Rattle.safety.specs.Types.{Outcome}
 use Rattle.safety.specs.Types.{Effect, Refuse, Hold, Send, Close, Seek, Receive, Halt, Act, Advance}
 use Rattle.model.specs.Tests.{count, some}
 use Rattle.model.specs.Rack.{same_round, round_of, same_outcome, is_sent, Messages, Replica, Rack, start, seeking, apply}
@@ -104,14 +104,14 @@ module _ (N : Numbers) (t : Taken) (c : ℕ) where
   by_votes = eqb t.step.who.0 c && (is_advance t.step.act && (not (is_sent (notice N k)) && same_round k.round Vote))
 
   abbrev pub decides : Bool
-  decides = by_votes && (same_outcome (Decided false) (outcome N k) || same_outcome (Decided true) (outcome N k))
+  decides = by_votes && (same_outcome (Some false) (outcome N k) || same_outcome (Some true) (outcome N k))
 
   abbrev pub reaches : ℕ → ℕ → Bool
-  reaches s p = completes N c s p (Decided false) t || completes N c s p (Decided true) t
+  reaches s p = completes N c s p (Some false) t || completes N c s p (Some true) t
 
   pub reaches_is : (s p : ℕ) → reaches s p ≡ (eqb k.closed s && (eqb k.phase p && decides))
-  reaches_is s p = ap₂ ◌||◌ (gathered (Decided false)) (gathered (Decided true))
-      ∙ either_result by_votes (eqb k.closed s) (eqb k.phase p) (same_outcome (Decided false) (outcome N k)) (same_outcome (Decided true) (outcome N k))
+  reaches_is s p = ap₂ ◌||◌ (gathered (Some false)) (gathered (Some true))
+      ∙ either_result by_votes (eqb k.closed s) (eqb k.phase p) (same_outcome (Some false) (outcome N k)) (same_outcome (Some true) (outcome N k))
     where
       gathered : (o : Outcome) → completes N c s p o t ≡ (by_votes && (eqb k.closed s && (eqb k.phase p && same_outcome o (outcome N k))))
       gathered o = four_first (eqb t.step.who.0 c) (is_advance t.step.act) (not (is_sent (notice N k))) (same_round k.round Vote)
@@ -198,11 +198,11 @@ module _ (N : Numbers) (r : Rack) (c : ℕ) {own : ℕ → Bool} {reached : ℕ 
 
   -- ---- steps that reach an outcome, or close the slot
 
-  pub reaches_outcome : (e : Effect) (v : Bool) → Voting N was → outcome N was ≡ Decided v → is_sent (notice N was) ≡ false
+  pub reaches_outcome : (e : Effect) (v : Bool) → Voting N was → outcome N was ≡ Some v → is_sent (notice N was) ≡ false
       → decides N (taking Advance e) c ≡ true
   reaches_outcome e v voting o unheard = rw (eq-eqb c c refl, unheard, voting.in_round, o) (go v)
     where
-      go : (v : Bool) → (same_outcome (Decided false) (Decided v) || same_outcome (Decided true) (Decided v)) ≡ true
+      go : (v : Bool) → (same_outcome (Some false) (Some v) || same_outcome (Some true) (Some v)) ≡ true
       go true = refl
       go false = refl
 
@@ -245,8 +245,8 @@ module _ (N : Numbers) (h : History) (old : CountsKept N h) where
   pub brings : (t : Taken) (next : Rack) (d : ℕ) → Tallies N t d (closed_own N h d) (outcome_reached N h d) (next.at d)
       → Tallied (next.at d) (closed_own N (behind t next) d) (outcome_reached N (behind t next) d)
   unfolding some
-  brings t next d = subst₃ Tallied refl refl (λ i s p. sym (pairs_first (completes N d s p (Decided false) t) (completed N h d s p (Decided false))
-      (completes N d s p (Decided true) t) (completed N h d s p (Decided true))) i)
+  brings t next d = subst₃ Tallied refl refl (λ i s p. sym (pairs_first (completes N d s p (Some false) t) (completed N h d s p (Some false))
+      (completes N d s p (Some true) t) (completed N h d s p (Some true))) i)
 
   -- a step of another
   pub other_step : (t : Taken) (next : Rack) (d : ℕ) → t.step.who.0 ≢ d → next.at d ≡ r.at d

@@ -1,11 +1,11 @@
 -- How a step's effect goes with the notices that its replica has heard: a close says whether it is by one, and the find round is entered
 -- without one.
-use Rattle.std.specs.Prelude.{Bool, true, false, ◌≡◌}
+use Rattle.std.specs.Prelude.{Bool, true, false, ◌≡◌, Some, None}
 use Rattle.std.proofs.Math.Bool.{not}
 use Rattle.std.proofs.Math.Option.{Option, some as just, none}
 use Rattle.std.proofs.Math.Path.{sym}
 use Rattle.std.proofs.Common.{ap}
-use Rattle.safety.specs.Types.{Numbers, Sort, Outcome, Undecided, Decided, Message}
+use Rattle.safety.specs.Types.{Numbers, Sort, Outcome, Message}
 use Rattle.safety.specs.Types.{Effect, Refuse, Hold, Send, Close, Seek, Receive, Halt}
 use Rattle.model.specs.Rack.{is_sent, Messages, Replica}
 use Rattle.model.specs.Rules.{notice, conclude, hear_rule}
@@ -23,9 +23,9 @@ Heeded N k Halt = Unit {0}
 module _ (N : Numbers) (k : Replica) where
   pub concludes : (flip : Bool) (o : Outcome) → is_sent (notice N k) ≡ false → Heeded N k (conclude N flip k o)
   unfolding conclude
-  concludes flip (Decided false) unheard = sym (ap not unheard)
-  concludes flip (Decided true) unheard = if-ind (Heeded N k) _ (λ _. unheard) (λ _. sym (ap not unheard))
-  concludes flip Undecided unheard = tt
+  concludes flip (Some false) unheard = sym (ap not unheard)
+  concludes flip (Some true) unheard = if-ind (Heeded N k) _ (λ _. unheard) (λ _. sym (ap not unheard))
+  concludes flip None unheard = tt
 
   pub heard_heeds : (sent : Messages) (m : Message) (so : Option Sort) → Heeded N k (hear_rule N sent k m so).effect
   unfolding hear_rule

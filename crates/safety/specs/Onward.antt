@@ -5,13 +5,13 @@
 use Prim.Native.Nat.{ℕ, zero, suc, ◌+◌, ◌≤◌, ◌<◌}
 use Rattle.std.proofs.Common.{arith, ⊎_elim, ◌∙◌}
 use Rattle.std.proofs.Math.Decide.{ℕ_discrete}
-use Rattle.std.specs.Prelude.{Bool, true, List, ◌⊎◌, ◌≡◌}
+use Rattle.std.specs.Prelude.{Bool, true, List, ◌⊎◌, ◌≡◌, Some, None}
 use Rattle.std.proofs.Math.Bool.{false, not}
 use Rattle.std.proofs.Math.Path.{refl, sym, ap}
 use Rattle.std.proofs.Math.Dec.{leb}
 use borrow.Author.Tests.{eq-eqb, leb-true, le-leb, lt-leb, le-ltb}
 use Rattle.safety.specs.Types.{Numbers, Sort, Proposals, States, Votes}
-use Rattle.safety.specs.Types.{Notices, Word, Tag, Outcome, Undecided, Decided, Effect, Refuse}
+use Rattle.safety.specs.Types.{Notices, Word, Tag, Outcome, Effect, Refuse}
 use Rattle.safety.specs.Types.{Act, Step}
 use Rattle.model.specs.Rack.{is, is_sent, tag_of, Replica, Rack}
 use Rattle.model.specs.TurnedAway.{Rule, settle}
@@ -65,9 +65,9 @@ module _ (N : Numbers) where
   -- a vote round that its phases allow to go on is accepted
   pub concludes : (flip : Bool) (k : Replica) (o : Outcome) → accepted (conclude N flip k o) ≡ true
   unfolding conclude
-  concludes flip k (Decided false) = refl
-  concludes flip k (Decided true) = if-ind (λ (e : Effect). accepted e ≡ true) _ (λ _. refl) (λ _. refl)
-  concludes flip k Undecided = refl
+  concludes flip k (Some false) = refl
+  concludes flip k (Some true) = if-ind (λ (e : Effect). accepted e ≡ true) _ (λ _. refl) (λ _. refl)
+  concludes flip k None = refl
 
   pub due_in : (so : Sort) (p : ℕ) → Due N so p → phase_in N so p ≡ true
   unfolding phase_in

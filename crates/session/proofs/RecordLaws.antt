@@ -2,30 +2,21 @@
 use Prim.Native.Nat.{ℕ, zero, suc, ◌+◌, ◌≤◌, ◌<◌}
 use native.Mathlib.Omega.{arith}
 use native.Mathlib.Numerals.{add-one}
-use native.Mathlib.Nat.{eq-or-lt_of_le, le_antisymm}
+use native.Mathlib.Nat.{eq-or-lt_of_le}
 use mathlib.Core.Bool.{true, false}
 use mathlib.Core.List.{List}
 use mathlib.Core.Logic.{⊎_elim}
 use mathlib.Core.Path.{◌≡◌, sym, ◌∙◌, ap}
-use lib.ListN.{length}
 use Rattle.model.specs.declared.Numbers.{Numbers}
 use Rattle.model.specs.declared.Answer.TheVariants.{Done}
 use Rattle.model.proofs.Branches.{if-true, if-false}
 use Rattle.tables.specs.Layout.{Tables}
 use Rattle.files.specs.declared.Player.{Player}
-use Rattle.files.specs.declared.Said.{Said}
-use Rattle.files.specs.declared.Said.TheVariants.{Answered}
+use Rattle.files.specs.Found.{Said, Ok, Some}
 use Rattle.files.specs.Play.{Turn, turn_of, turn, goes_on, turn_on, play, begun}
 use Rattle.files.specs.Reported.{fresh}
 
--- memories of the same lengths
-pub record Alike (ws os bs st ws' os' bs' st' : List ℕ) : Type 0 where
-  pub words : length ws ≡ length ws'
-  pub orders : length os ≡ length os'
-  pub ballots : length bs ≡ length bs'
-  pub strip : length st ≡ length st'
-
-pub play_none : (most : Numbers) (file : List ℕ) (t : Tables) (strip : List ℕ) {said : Said} {p : Player} → said ≡ Answered Done → p ≡ fresh
+pub play_none : (most : Numbers) (file : List ℕ) (t : Tables) (strip : List ℕ) {said : Said} {p : Player} → said ≡ Ok (Some Done) → p ≡ fresh
     → turn_of said p t strip ≡ play 0 most file (begun fresh t strip)
 unfolding play
 play_none most file t strip {p = p} e g = ap (λ (s : Said). turn_of s p t strip) e ∙ ap (λ (p : Player). begun p t strip) g
@@ -37,9 +28,6 @@ module _ (most : Numbers) (file : List ℕ) (x : Turn) where
   pub play_more : (i : ℕ) {y z : Turn} → y ≡ play i most file x → z ≡ turn_on most file y → z ≡ play (i + 1) most file x
   unfolding play
   play_more i q h = rw (add-one i) (h ∙ ap (turn_on most file) q)
-
-  pub play_all : {i n : ℕ} {y : Turn} → i ≤ n → n ≤ i → y ≡ play i most file x → y ≡ play n most file x
-  play_all l g q = q ∙ ap (λ (i : ℕ). play i most file x) (le_antisymm l g)
 
   -- where reading does not go on, no further turn changes anything
   pub still : (i n : ℕ) → i ≤ n → goes_on (play i most file x).said ≡ false → play n most file x ≡ play i most file x

@@ -5,10 +5,13 @@ use native.Mathlib.Numerals.{add-one}
 use native.Mathlib.Nat.{le_refl, le_antisymm, eq-or-lt_of_le}
 use mathlib.Core.Bool.{true, false}
 use mathlib.Core.List.{List, []}
-use mathlib.Core.Logic.{⊎_elim}
-use mathlib.Core.Path.{◌≡◌, sym, ◌∙◌, ap, subst}
+use mathlib.Core.Logic.{⊎_elim, ◌≢◌}
+use mathlib.Core.Path.{◌≡◌, refl, sym, ◌∙◌, ap, subst}
 use lib.ListN.{length}
 use Rattle.model.specs.declared.Numbers.{Numbers}
+use Rattle.model.specs.declared.Refusal.{Refusal}
+use Rattle.model.specs.declared.Answer.{Answer}
+use Rattle.model.specs.declared.Answer.TheVariants.{Refused, Done, Ran, Opened, Conducted}
 use Rattle.model.proofs.Branches.{if-true, if-false}
 use Rattle.tables.specs.Layout.{Tables, words_need, orders_need}
 use Rattle.tables.specs.Bounds.{Bounds}
@@ -17,15 +20,24 @@ use Rattle.files.specs.Page.{Page, print}
 use Rattle.files.specs.Lines.{benches_in}
 use Rattle.report.proofs.PageLaws.{then, same_text, nothing}
 use Rattle.report.proofs.BenchLaws.{by_view}
-use Rattle.files.specs.declared.Said.{Said}
+use Rattle.files.specs.Found.{Said, Option, Ok, None, Some}
 use Rattle.files.specs.Play.{Turn, turn, goes_on, turn_on, play, begun}
 use Rattle.files.proofs.Playing.{opened_sound}
-use Rattle.session.proofs.RecordLaws.{on_more, play_more, play_all, still, play_stopped}
-use Rattle.files.specs.Reported.{said_line, line_on, lines, ending, fresh, whole, report}
+use Rattle.session.proofs.RecordLaws.{on_more, play_more, still, play_stopped}
+use Rattle.files.specs.Reported.{said_line, line_on, lines, ending, ending_of, fresh, whole, report}
 
 -- what is said of a record is one of its cases
 pub says : (p : Page) {q : Page} (k : ℕ) (said s : Said) → said ≡ s → q ≡ print p (said_line k s) → q ≡ print p (said_line k said)
 says p k said s e h = same_text p _ _ (ap (said_line k) (sym e)) h
+
+-- an accepted call that opens nothing has no line
+pub no_line : (p : Page) (k : ℕ) (a : Answer) → ((why : Refusal) → a ≢ Refused why) → ((N : Numbers) → a ≢ Opened N) → p ≡ print p (said_line k (Ok (Some a)))
+unfolding said_line
+no_line p k (Refused why) h g = absurd (h why refl)
+no_line p k Done h g = nothing p
+no_line p k (Ran m) h g = nothing p
+no_line p k (Opened N) h g = absurd (g N refl)
+no_line p k (Conducted m r) h g = nothing p
 
 module _ (most : Numbers) (file : List ℕ) where
   pub line_more : (p : Page) {q : Page} (k : ℕ) (x : Turn) {y : Turn} → goes_on x.said ≡ true → y ≡ turn_on most file x
@@ -82,30 +94,24 @@ module _ (most : Numbers) (file : List ℕ) where
     pub stopped : {i n : ℕ} {y : Turn} {q : Page} → i ≤ n → goes_on y.said ≡ false → Written i y q → Written n y q
     stopped l h (e, g) = (play_stopped most file x l h e, lines_stopped l h e g)
 
-    pub finished : {i n : ℕ} {y : Turn} {q : Page} → i ≤ n → n ≤ i → Written i y q → Written n y q
-    finished l g (e, h) = (play_all most file x l g e, lines_all l g h)
-
   -- ---- the end
 
   module _ (t : Tables) (strip : List ℕ) (p : Page) {q : Page} {x : Turn} (played : Written p (begun fresh t strip) (length file) x q) where
     -- what the lines at the end are read from
-    pub readable : x.player.opened ≡ true
-        → let N = x.player.numbers in (Bounds N) × (words_need N ≤ length x.tables.words) × (orders_need N ≤ length x.tables.orders)
-    readable h =
-        let fine = subst (λ (y : Turn). Sound y.player.numbers y.tables) (sym played.0)
-        (opened_sound most file t strip (length file) (sym (ap (λ (y : Turn). y.player.opened) played.0) ∙ h)) in
+    pub readable : {N : Numbers} → x.player.opened ≡ Some N → (Bounds N) × (words_need N ≤ length x.tables.words) × (orders_need N ≤ length x.tables.orders)
+    readable {N} h =
+        let fine = subst (λ (y : Turn). Sound N y.tables) (sym played.0)
+        (opened_sound most file t strip (length file) N (sym (ap (λ (y : Turn). y.player.opened) played.0) ∙ h)) in
         (fine.within, fine.long.words, fine.long.orders)
 
-    abbrev Reported : Page → Type 0
-    Reported r = (x ≡ whole most file t strip) × (r ≡ print p (report most file t strip))
-
-    ends : {r : Page} → r ≡ print q (ending x) → Reported r
+    ends : {r : Page} → r ≡ print q (ending x) → r ≡ print p (report most file t strip)
     unfolding report whole
-    ends e = (played.0, then p _ _ played.1 (same_text q _ _ (ap ending played.0) e))
+    ends e = then p _ _ played.1 (same_text q _ _ (ap ending played.0) e)
 
-    pub ends_unopened : x.player.opened ≡ false → Reported q
-    ends_unopened h = ends (same_text q [] _ (sym (if-false _ _ h)) (nothing q))
+    pub ends_unopened : x.player.opened ≡ None → q ≡ print p (report most file t strip)
+    ends_unopened h = ends (same_text q [] _ (ap (λ (run : Option Numbers). ending_of run x.tables) (sym h)) (nothing q))
 
-    pub ends_opened : {r : Page} → x.player.opened ≡ true
-        → let N = x.player.numbers in r ≡ print q (benches_in N x.tables.words x.tables.orders N.n) → Reported r
-    ends_opened h e = ends (same_text q _ _ (by_view x.player.numbers x.tables _ (le_refl _) ∙ sym (if-true _ _ h)) e)
+    pub ends_opened : {N : Numbers} {r : Page} → x.player.opened ≡ Some N
+        → r ≡ print q (benches_in N x.tables.words x.tables.orders N.n) → r ≡ print p (report most file t strip)
+    ends_opened {N} h e =
+        ends (same_text q _ _ (by_view N x.tables _ (le_refl _) ∙ ap (λ (run : Option Numbers). ending_of run x.tables) (sym h)) e)

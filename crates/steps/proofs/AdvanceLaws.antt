@@ -36,10 +36,10 @@ module _ {N : Numbers} {c d st : ℕ} {t : Tables} (l : Admitted N c d st t) {k 
     (round : o ≡ round_in k.round) where
   -- the rule of a record and round, as the code reads the memories
   abbrev heeding : List ℕ → Record → Round → Rule
-  heeding strip j a = heed (noticed N c j.slot t.words t.orders t.ballots)
-      (advance_rule N (coin N.phases strip j.slot j.phase) (heard_by N c j.slot j.phase t.words t.orders t.ballots) a)
+  heeding strip j a = heed (noticed N c j.slot t)
+      (advance_rule N (coin N.phases strip j.slot j.phase) (heard_by N c j.slot j.phase t) a)
 
-  pub advance_asks : (c < N.n) × (misplaced N o k.slot k.phase ≡ false) × Reach N t.words t.orders t.ballots × (N.slots * N.phases ≤ st)
+  pub advance_asks : (c < N.n) × (misplaced N o k.slot k.phase ≡ false) × Reach N t × (N.slots * N.phases ≤ st)
   advance_asks = (l.who, own_stands l loaded round, reach l, l.coins)
 
   pub advances : (strip : List ℕ) {r : Effect}

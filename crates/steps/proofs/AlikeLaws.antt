@@ -6,6 +6,7 @@ use mathlib.Core.Bool.{Bool, true, false, not, ◌&&◌}
 use mathlib.Core.List.{[], ◌∷◌}
 use mathlib.Core.Path.{◌≡◌, refl, sym, ◌∙◌, ap}
 use lib.Dec.{leb, ltb, eqb}
+use Rattle.std.specs.Prelude.{Some, None}
 use Rattle.model.specs.declared.Numbers.{Numbers}
 use Rattle.model.specs.declared.Round.{Round}
 use Rattle.model.specs.declared.Round.TheVariants.{Idle, Exchange, State, Vote, Find}
@@ -13,8 +14,7 @@ use Rattle.model.specs.declared.Sort.{Sort}
 use Rattle.model.specs.declared.Sort.TheVariants.{Proposals, States, Votes}
 use Rattle.model.specs.declared.Word.{Word}
 use Rattle.model.specs.declared.Word.TheVariants.{Tag, Say, Unsure}
-use Rattle.model.specs.declared.Outcome.{Outcome}
-use Rattle.model.specs.declared.Outcome.TheVariants.{Undecided, Decided}
+use Rattle.model.specs.Types.{Outcome}
 use Rattle.model.specs.declared.Refusal.TheVariants.{TooFewHeard, PhasesUsedUp}
 use Rattle.model.specs.declared.Effect.TheVariants.{Send, Close, Seek}
 use Rattle.tables.specs.declared.Record.{Record}
@@ -93,19 +93,19 @@ module _ (N : Numbers) (r : Record) (e : ℕ → ℕ) (h : ℕ → Bool) (m : Me
     ones = tally_alike Votes r.phase (Say true) p
 
     outcome_alike : outcome N k ≡ outcome N k'
-    outcome_alike = λ i. if (leb (f + 1) (zeros i)) (Decided false) (if (leb (f + 1) (ones i)) (Decided true) Undecided)
+    outcome_alike = λ i. if (leb (f + 1) (zeros i)) (Some false) (if (leb (f + 1) (ones i)) (Some true) None)
 
     conclude_alike : (o : Outcome) → conclude N flip k o ≡ conclude N flip k' o
     unfolding conclude
-    conclude_alike (Decided false) = refl
-    conclude_alike (Decided true) = λ i. if (eqb (tag_alike i) 0) Seek (Close (tag_alike i) true)
-    conclude_alike Undecided = λ i. Send States (suc r.phase) (Say (if (leb 1 (zeros i)) false (if (leb 1 (ones i)) true flip)))
+    conclude_alike (Some false) = refl
+    conclude_alike (Some true) = λ i. if (eqb (tag_alike i) 0) Seek (Close (tag_alike i) true)
+    conclude_alike None = λ i. Send States (suc r.phase) (Say (if (leb 1 (zeros i)) false (if (leb 1 (ones i)) true flip)))
 
     vote_alike : vote_rule N flip k ≡ vote_rule N flip k'
     vote_alike =
         let c = heard_alike Votes r.phase p in
         let o = conclude_alike (outcome N k) ∙ ap (conclude N flip k') outcome_alike in
-        λ i. TooFewHeard when ltb (c i) (quorum N) ∷ PhasesUsedUp when (same_outcome Undecided (outcome_alike i) && leb phases r.phase) ∷ [] ⊢ o i
+        λ i. TooFewHeard when ltb (c i) (quorum N) ∷ PhasesUsedUp when (same_outcome None (outcome_alike i) && leb phases r.phase) ∷ [] ⊢ o i
 
 -- by the round
 pub advance_alike : (N : Numbers) (r : Record) (e : ℕ → ℕ) (h : ℕ → Bool) (m : Messages) (flip : Bool) (a : Round) → misplaced N a r.slot r.phase ≡ false

@@ -1,5 +1,5 @@
 -- A crash on the words, by whether its record is there.
-use Prim.Native.Nat.{ℕ, ◌≤◌, ◌<◌}
+use Prim.Native.Nat.{ℕ, ◌≤◌}
 use native.Mathlib.Omega.{arith}
 use mathlib.Core.Bool.{Bool, true, false, ◌&&◌, and-false as and_no}
 use mathlib.Core.List.{List, [], ◌∷◌}
@@ -65,20 +65,13 @@ module _ (N : Numbers) (c : ℕ) (ws : List ℕ) where
     long : record_end c ≤ length ws
     long = leb-true _ _ (and_true (ltb c mask_bits) _ (sym is ∙ here)).1
 
-    pub placed : (c < mask_bits) × (record_end c ≤ length ws)
-    placed = (ltb-true _ _ (and_true (ltb c mask_bits) _ (sym is ∙ here)).0, long)
-
     judged_there : unless Refuse (crash_refusals N c (record_at ws c)) Halt ≡ crash_judged N c ws
     unfolding crash_judged unless if
     judged_there = rw (le-leb (record_end c) (length ws) long, le-ltb (length ws) (record_end c) long, and_no (ltb c n))
 
     module _ {k : Record} {a : Answer} {after : Record} (loaded : k ≡ record_at ws c) (made : crash_outcome a after ≡ crashed N c k) where
-      made_there : effect_of a ≡ crash_judged N c ws
+      pub made_there : effect_of a ≡ crash_judged N c ws
       unfolding crashed
       made_there =
           ap (λ (o : CrashOutcome). effect_of o.answer) (made ∙ ap (crashed N c) loaded)
           ∙ effect_unless (record_at ws c) (halted (record_at ws c)) (crash_refusals N c (record_at ws c)) ∙ judged_there
-
-      -- the effect of the answer that the code has matched
-      pub crash_told : {e : Effect} (x : Answer) → a ≡ x → e ≡ effect_of x → e ≡ crash_judged N c ws
-      crash_told x told is = is ∙ ap effect_of (sym told) ∙ made_there

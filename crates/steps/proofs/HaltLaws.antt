@@ -1,8 +1,8 @@
 -- A crash on the memories: that `judge` gives what its one record does, what it stores, and that this is the definition's step.
 use Prim.Native.Nat.{ℕ}
-use mathlib.Core.Bool.{Bool, true, false, not, ◌&&◌, ◌||◌, or-false as or_no}
+use mathlib.Core.Bool.{Bool, false, not, ◌&&◌, ◌||◌, or-false as or_no}
 use mathlib.Core.List.{List}
-use mathlib.Core.Path.{◌≡◌, refl, sym, ◌∙◌, ap, subst}
+use mathlib.Core.Path.{◌≡◌, refl, sym, ◌∙◌, ap}
 use lib.Dec.{leb, ltb, eqb}
 use lib.ListN.{length}
 use Rattle.model.specs.declared.Numbers.{Numbers}
@@ -12,23 +12,21 @@ use Rattle.model.specs.declared.Effect.{Effect}
 use Rattle.model.specs.declared.Effect.TheVariants.{Refuse, Halt}
 use Rattle.model.specs.declared.Act.TheVariants.{Crash}
 use Rattle.model.specs.declared.Step.{Step}
-use Rattle.model.specs.declared.Answer.{Answer}
 use Rattle.model.specs.declared.Answer.TheVariants.{Done}
 use Rattle.tables.specs.declared.Record.{Record}
 use Rattle.model.specs.Tests.{if}
 use Rattle.model.specs.Limits.{limited}
 use Rattle.model.specs.TurnedAway.{unless}
-use Rattle.model.specs.Rules.{own_rule, rule}
-use Rattle.model.specs.Scripts.{accepted, answered, ended}
+use Rattle.model.specs.Rules.{own_rule}
+use Rattle.model.specs.Scripts.{ended}
 use Rattle.tables.specs.Layout.{Tables, record_end, record_at, record_stored}
-use Rattle.tables.specs.View.{view}
 use Rattle.tables.specs.Checks.{spoiled_at}
 use Rattle.tables.specs.Write.{halted}
 use Rattle.tables.specs.Calls.{tables, judge, stepped}
-use Rattle.effects.specs.Doable.{Doable, RecordThere}
-use Rattle.effects.proofs.CarryLaws.{carried, stopped}
+use Rattle.effects.specs.Doable.{RecordThere}
+use Rattle.effects.proofs.CarryLaws.{stopped}
 use Rattle.acts.proofs.GateLaws.{admits}
-use Rattle.acts.proofs.StepLaws.{doable, comes, stays, stores}
+use Rattle.acts.proofs.StepLaws.{doable, stores}
 use Rattle.steps.specs.Crashing.{crash_judged}
 
 module _ (N : Numbers) (strip : List ℕ) (c : ReplicaId) (ws os bs : List ℕ) where
@@ -52,23 +50,13 @@ module _ (N : Numbers) (strip : List ℕ) (c : ReplicaId) (ws os bs : List ℕ) 
       (admits N strip T c (λ _. Halt) false false refl
       ∙ ap (λ (b : Bool). if b (Refuse NoSuchReplica) (if (not (eqb k.crashed 0)) (Refuse Crashed) Halt)) (or_no (leb n c.0)))
 
-  halts : (rule N strip step (view N T)).effect ≡ Halt
-  unfolding own_rule
-  halts = refl
+  module _ {e : Effect} (found : e ≡ crash_judged N c.0 ws) where
+    pub crash_judges : e ≡ judge N strip step T
+    crash_judges = found ∙ sym behind
 
-  module _ {e : Effect} {b : Bool} (found : e ≡ crash_judged N c.0 ws) (asked : b ≡ accepted e) where
-    judged : e ≡ judge N strip step T
-    judged = found ∙ sym behind
+  module _ (found : Halt ≡ crash_judged N c.0 ws) where
+    pub halt_asked : RecordThere c.0 ws
+    halt_asked = doable N strip step T (crash_judges found)
 
-    pub crash_stays : {r : Answer} → b ≡ false → r ≡ answered Done e → ended r T ≡ stepped N strip step T
-    crash_stays h q = stays N strip step T judged asked h q
-
-    module _ (h : b ≡ true) where
-      is_halt : e ≡ Halt
-      is_halt = comes N strip step T judged asked h ∙ halts
-
-      pub halt_asked : RecordThere c.0 ws
-      halt_asked = subst (λ (e : Effect). Doable N c.0 e T) is_halt (doable N strip step T judged)
-
-      pub crash_made : {ws' : List ℕ} → ws' ≡ record_stored ws c.0 (halted k) → ended Done (tables ws' os bs) ≡ stepped N strip step T
-      crash_made q = stores N strip step T judged asked h (carried N c.0 T is_halt (stopped N c.0 ws os bs q))
+    pub crash_made : {ws' : List ℕ} → ws' ≡ record_stored ws c.0 (halted k) → ended Done (tables ws' os bs) ≡ stepped N strip step T
+    crash_made q = stores N strip step T (crash_judges found) refl refl (stopped N c.0 T q)

@@ -1,91 +1,59 @@
 // Advance: judged by a heard notice, else by the rule of the replica's round, and carried out. A run on is built of the same.
-ghost use Rattle.std.specs.Prelude.{◌≡◌, true, length};
+ghost use Rattle.std.specs.Prelude.{◌≡◌, length};
+ghost use Rattle.model.specs.declared.Answer.TheVariants.{Done};
+ghost use Rattle.model.specs.Answers.{answer_in};
 ghost use Rattle.model.specs.Scripts.{advance as advancing, ended};
-ghost use Rattle.tables.specs.Calls.{tables, judge, performed, stepped};
-ghost use Rattle.tables.specs.Lent.{moments};
-ghost use Rattle.acts.specs.Admitted.{first_vetted, Passing};
+ghost use Rattle.tables.specs.Calls.{judge, performed, stepped};
+ghost use Rattle.tables.specs.Lent.{held, Same};
+ghost use Rattle.refusals.specs.Vet.{first_vetted};
 
-use acts::effect::answer_of;
 use advance::notices::heed;
-use cells::records::{load, round_in};
+use cells::records::load;
 use effects::carry::carry_advance;
-use model::{Answer, Effect, Numbers, Refusal, ReplicaId};
-use refusals::{Vetted, measure, run_spoiled, vet};
-
-// The first refusals; they are not asked again where it is known that none is met.
-fn admit(
-    admitted: bool,
-    numbers: Numbers,
-    who: ReplicaId,
-    words: &[u16],
-    orders: &[u64],
-    ballots: &[u8],
-    strip: &[u8],
-) -> Vetted
-    requires { admitted ≡ true → Passing numbers who.0 (length strip.now) (tables words.now orders.now ballots.now) }
-    ensures { let t = tables words.now orders.now ballots.now in
-        result ≡ first_vetted numbers who.0 who.0 (length strip.now) t }
-{
-    if admitted {
-        return Vetted::Passed;
-    }
-    if run_spoiled(numbers, words) {
-        return Vetted::Refused(Refusal::SpoiledRecord);
-    }
-    let sizes = measure(words, orders, ballots);
-    vet(numbers, who.0, who.0, sizes, strip.len(), words)
-}
+use model::{Effect, Numbers, Refusal, ReplicaId, Round};
+use refusals::admit;
+use tables::Memory;
 
 fn judge_advance(
     numbers: Numbers,
     who: ReplicaId,
-    admitted: bool,
-    words: &[u16],
-    orders: &[u64],
-    ballots: &[u8],
+    vetted: Result<(), Refusal>,
+    memory: &Memory,
     strip: &[u8],
 ) -> Effect
-    requires { admitted ≡ true → Passing numbers who.0 (length strip.now) (tables words.now orders.now ballots.now) }
-    ensures { result ≡ judge numbers strip.now (advancing who) (tables words.now orders.now ballots.now) }
+    requires { vetted ≡ first_vetted numbers who.0 who.0 (length strip.now) (held memory.now) }
+    ensures { result ≡ judge numbers strip.now (advancing who) (held memory.now) }
 {
-    match admit(admitted, numbers, who, words, orders, ballots, strip) {
-        Vetted::Refused(why) => Effect::Refuse(why),
-        Vetted::Passed => {
-            let k = load(words, who.0);
-            let slot = k.slot as usize;
-            let phase = k.phase as usize;
-            heed(
-                numbers,
-                who.0,
-                round_in(k.round),
-                slot,
-                phase,
-                words,
-                orders,
-                ballots,
-                strip,
-            )
-        }
+    if let Err(why) = vetted {
+        return Effect::Refuse(why);
     }
+    let k = load(memory.words, who.0);
+    heed(
+        numbers,
+        who.0,
+        Round::from(k.round),
+        k.slot as usize,
+        k.phase as usize,
+        memory,
+        strip,
+    )
 }
 
-// Where `admitted`, no first refusal is met: a run on asks them once.
+// `vetted`: what the first refusals come to. A run on asks them once.
 pub fn advance_once(
     numbers: Numbers,
     who: ReplicaId,
-    admitted: bool,
-    words: &mut [u16],
-    orders: &mut [u64],
-    ballots: &mut [u8],
+    vetted: Result<(), Refusal>,
+    memory: &mut Memory,
     strip: &[u8],
 ) -> Effect
-    requires { admitted ≡ true → Passing numbers who.0 (length strip.now) (tables words.old orders.old ballots.old) }
-    ensures { let t = moments words orders ballots in
-        (result ≡ judge numbers strip.now (advancing who) t.entry)
-        × (t.exit ≡ performed numbers strip.now (advancing who) t.entry) }
+    requires { vetted ≡ first_vetted numbers who.0 who.0 (length strip.now) (held memory.old) }
+    ensures same { Same memory.old memory.new }
+    ensures judged { result ≡ judge numbers strip.now (advancing who) (held memory.old) }
+    ensures left { held memory.new ≡ performed numbers strip.now (advancing who) (held memory.old) }
 {
-    let effect = judge_advance(numbers, who, admitted, words, orders, ballots, strip);
-    carry_advance(numbers, who.0, effect, words, orders, ballots);
+    let effect = judge_advance(numbers, who, vetted, memory, strip);
+    carry_advance(numbers, who.0, effect, memory);
     effect
 }
 
@@ -93,14 +61,15 @@ pub fn advance_once(
 pub fn advance(
     numbers: Numbers,
     who: ReplicaId,
-    words: &mut [u16],
-    orders: &mut [u64],
-    ballots: &mut [u8],
+    memory: &mut Memory,
     strip: &[u8],
-) -> Answer
-    ensures { let t = moments words orders ballots in
-        ended result t.exit ≡ stepped numbers strip.now (advancing who) t.entry }
+) -> Result<(), Refusal>
+    ensures same { Same memory.old memory.new }
+    ensures outcome { ended (answer_in (λ _. Done) result) (held memory.new) ≡ stepped numbers strip.now (advancing who) (held memory.old) }
 {
-    let effect = advance_once(numbers, who, false, words, orders, ballots, strip);
-    answer_of(effect)
+    let vetted = admit(numbers, who.0, who.0, memory, strip.len());
+    match advance_once(numbers, who, vetted, memory, strip) {
+        Effect::Refuse(why) => Err(why),
+        _ => Ok(()),
+    }
 }

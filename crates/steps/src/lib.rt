@@ -5,35 +5,35 @@ pub mod advances;
 pub mod crashes;
 
 ghost use Rattle.std.specs.Prelude.{◌≡◌};
+ghost use Rattle.model.specs.declared.Answer.TheVariants.{Done};
+ghost use Rattle.model.specs.Answers.{answer_in};
 ghost use Rattle.model.specs.Scripts.{ended};
 ghost use Rattle.tables.specs.Calls.{stepped};
-ghost use Rattle.tables.specs.Lent.{moments};
+ghost use Rattle.tables.specs.Lent.{held, Same};
 
 use acts::{begin, hear, relay, submit};
 use advances::advance;
 use crashes::crash;
-use model::{Act, Answer, Numbers, Step};
+use model::{Act, Numbers, Refusal, Step};
+use tables::Memory;
 
 // Submit, relay, begin, hear, advance or crash; a crash is lent the record of the words.
 pub fn take_step(
     step: Step,
     numbers: Numbers,
-    words: &mut [u16],
-    orders: &mut [u64],
-    ballots: &mut [u8],
+    memory: &mut Memory,
     strip: &[u8],
-) -> Answer
-    ensures { let t = moments words orders ballots in
-        ended result t.exit ≡ stepped numbers strip.now step t.entry }
+) -> Result<(), Refusal>
+    ensures same { Same memory.old memory.new }
+    ensures outcome { ended (answer_in (λ _. Done) result) (held memory.new) ≡ stepped numbers strip.now step (held memory.old) }
 {
     let who = step.who;
-    let act = step.act;
-    match act {
-        Act::Submit(tag) => submit(numbers, who, tag, words, orders, ballots, strip),
-        Act::Relay(tag) => relay(numbers, who, tag, words, orders, ballots, strip),
-        Act::Begin => begin(numbers, who, words, orders, ballots, strip),
-        Act::Hear(message) => hear(numbers, who, message, words, orders, ballots, strip),
-        Act::Advance => advance(numbers, who, words, orders, ballots, strip),
-        Act::Crash => crash(numbers, who, words),
+    match step.act {
+        Act::Submit(tag) => submit(numbers, who, tag, memory, strip),
+        Act::Relay(tag) => relay(numbers, who, tag, memory, strip),
+        Act::Begin => begin(numbers, who, memory, strip),
+        Act::Hear(message) => hear(numbers, who, message, memory, strip),
+        Act::Advance => advance(numbers, who, memory, strip),
+        Act::Crash => crash(numbers, who, memory.words),
     }
 }

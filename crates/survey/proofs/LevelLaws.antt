@@ -16,17 +16,11 @@ use Rattle.model.specs.Conductor.{uneven, spoke, level}
 use Rattle.model.proofs.Branches.{told, if-false}
 use Rattle.model.proofs.Cases.{and_none, or_none}
 use Rattle.model.proofs.Counting.{any_nowhere, any_same}
-use Rattle.tables.specs.declared.Record.{Record}
 use Rattle.tables.specs.Layout.{has_row, record_at}
 use Rattle.tables.specs.View.{in_run, guarded, sent_words}
 use Rattle.tables.specs.Addresses.{Within, guarded_at, state_in, as_vote}
 use Rattle.survey.specs.Standing.{uneven_record, balloted}
 use Rattle.survey.proofs.SeenLaws.{seen, uneven_seen}
-
--- ---- the record of a replica, as it was loaded
-
-pub uneven_loaded : (ws : List ℕ) (s c : ℕ) {k : Record} {b : Bool} → k ≡ record_at ws c → b ≡ uneven_record s k → b ≡ uneven_record s (record_at ws c)
-uneven_loaded ws s c loaded e = e ∙ ap (uneven_record s) loaded
 
 -- ---- a message of the slot
 
@@ -50,17 +44,6 @@ sent_seen {N} ws os bs within word is = is ∙ ap is_sent (word ∙ sym (guarded
 -- in the phase behind i
 pub behind : (sent : Messages) (s d i : ℕ) {b : Bool} → b ≡ (is_sent (sent States s (i + 1) d) || is_sent (sent Votes s (i + 1) d)) → b ≡ balloted sent s d i
 behind sent s d i e = e ∙ rw (add-one i)
-
-module _ (N : Numbers) (r : Rack) (s d : ℕ) {offer : Bool} (is : offer ≡ is_sent (r.sent Proposals s 0 d)) where
-  pub spoke_offer : offer ≡ true → true ≡ spoke N r s d
-  spoke_offer e = sym (rw (told is e))
-
-  module _ (quiet : offer ≡ false) {notice : Bool} (also : notice ≡ is_sent (r.sent Notices s 0 d)) where
-    pub spoke_notice : notice ≡ true → true ≡ spoke N r s d
-    spoke_notice e = sym (rw (told is quiet, told also e))
-
-    pub spoke_ballots : {b : Bool} → notice ≡ false → b ≡ any N.phases (balloted r.sent s d) → b ≡ spoke N r s d
-    spoke_ballots e q = q ∙ sym (rw (told is quiet, told also e))
 
 -- ---- the rack
 

@@ -2,13 +2,13 @@
 use Prim.Native.Nat.{ℕ, ◌+◌}
 use native.Mathlib.Omega.{arith}
 use native.Mathlib.Decide.{ℕ_discrete}
-use mathlib.Core.Bool.{Bool, true, false, ◌&&◌, ◌||◌}
+use mathlib.Core.Bool.{Bool, true, false, not, ◌&&◌, ◌||◌, and-false as and_false_right}
 use mathlib.Core.Logic.{◌≢◌}
 use mathlib.Core.Path.{◌≡◌, sym, ◌∙◌, ap, subst}
 use lib.Dec.{ltb, eqb}
 use borrow.Author.Tests.{lt-ltb, le-ltb, ltb-true, ltb-false, eq-eqb, ne_eqb}
-use Rattle.model.specs.Tests.{if}
-use Rattle.model.proofs.Cases.{either, if-ind}
+use Rattle.model.proofs.Branches.{told}
+use Rattle.model.proofs.Cases.{either}
 use Rattle.tables.specs.Layout.{has_bit, with_bit}
 use Rattle.tables.specs.Masks.{no_bit, has_with}
 use Rattle.survey.specs.Marked.{Marked}
@@ -45,6 +45,16 @@ module _ (ok : ℕ → Bool) where
         go c (yes q) = rw (le-ltb c k (omega arith), lt-ltb c (k + 1) (omega arith)) (sym (ap ok q ∙ e))
         go c (no ne) = rw (other c ne)
 
-    -- one more, by its test
-    pub marks_more : {b : Bool} {m : ℕ} → b ≡ ok k → m ≡ if b (with_bit mask k) mask → Marks ok (k + 1) m
-    marks_more {b} t e = subst (Marks ok (k + 1)) (sym e) (if-ind (Marks ok (k + 1)) b (λ q. marks_with (sym t ∙ q)) (λ q. marks_without (sym t ∙ q)))
+-- those that pass one test and fail another, by the branches that the code took
+module _ (a b : ℕ → Bool) {k mask : ℕ} (so_far : Marks (λ c. a c && not (b c)) k mask) where
+  abbrev Further : ℕ → Type 0
+  Further m = Marks (λ c. a c && not (b c)) (k + 1) m
+
+  pub marks_both : {m : ℕ} {p q : Bool} → p ≡ a k → p ≡ true → q ≡ b k → q ≡ false → m ≡ with_bit mask k → Further m
+  marks_both first passes second fails e = subst Further (sym e) (marks_with _ so_far (rw (told first passes, told second fails)))
+
+  pub marks_second : {m : ℕ} {q : Bool} → q ≡ b k → q ≡ true → m ≡ mask → Further m
+  marks_second second passes e = subst Further (sym e) (marks_without _ so_far (rw (told second passes, and_false_right (a k))))
+
+  pub marks_neither : {m : ℕ} {p : Bool} → p ≡ a k → p ≡ false → m ≡ mask → Further m
+  marks_neither first fails e = subst Further (sym e) (marks_without _ so_far (rw (told first fails)))

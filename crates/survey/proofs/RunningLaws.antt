@@ -1,23 +1,21 @@
 -- Who is running, replica by replica.
 use Prim.Native.Nat.{ℕ, ◌+◌, ◌≤◌, ◌<◌}
 use native.Mathlib.Omega.{arith}
-use native.Mathlib.Nat.{le_antisymm}
 use native.Mathlib.Numerals.{add-one}
 use mathlib.Core.List.{List, []}
 use mathlib.Core.Path.{◌≡◌, refl, sym, ◌∙◌, ap, subst}
 use Rattle.model.specs.declared.Numbers.{Numbers}
 use Rattle.model.specs.Tests.{if, bit, count}
 use Rattle.model.specs.Rack.{Rack}
-use Rattle.model.specs.Conductor.{is_running, running_count, slot_among, common_slot}
+use Rattle.model.specs.Conductor.{is_running, slot_among}
 use Rattle.model.proofs.Branches.{if-true, if-false}
 use Rattle.model.proofs.Cases.{if-ind}
 use Rattle.model.proofs.Counting.{count_none, count_more, count_low}
 use Rattle.tables.specs.declared.Record.{Record}
 use Rattle.tables.specs.Layout.{record_at}
 use Rattle.survey.specs.declared.running.Running.{Running}
-use Rattle.survey.specs.Marked.{Marked}
 use Rattle.survey.specs.Standing.{runs, joined}
-use Rattle.survey.proofs.MarkLaws.{Marks, marks_none, marks_with, marks_without, marks_all}
+use Rattle.survey.proofs.MarkLaws.{Marks, marks_none, marks_with, marks_without}
 use Rattle.survey.proofs.SeenLaws.{seen, runs_seen, slot_seen}
 
 module _ (N : Numbers) (r : Rack) where
@@ -64,9 +62,3 @@ module _ (ws : List ℕ) (n : ℕ) where
       let is = ap runs loaded ∙ runs_seen N ws os bs low in
       let at = ap (λ (k : Record). k.slot) loaded ∙ slot_seen N ws os bs low in
       subst (Among N _ (c + 1)) (sym q) (among_more N _ k is at (a N e os bs))
-
-  pub found_all : (N : Numbers) {k : ℕ} {f : Running} → N.n ≡ n → k ≤ n → n ≤ k → Found k f → (os bs : List ℕ) → let r = seen N ws os bs in
-      (Marked N.n (is_running N r) f.mask) × (f.count ≡ running_count N r) × (f.slot ≡ common_slot N r)
-  found_all N {f = f} e to from a os bs =
-      let b = subst (λ (k : ℕ). Among N (seen N ws os bs) k f) (le_antisymm to from ∙ sym e) (a N e os bs) in
-      (marks_all _ b.mask, b.count, b.slot)

@@ -32,21 +32,19 @@ module _ (x y : ℕ) where
   abbrev sooner : ℕ
   sooner = if (eqb x 0) y (earlier x y)
 
-  pub sooner_blank : {z : Bool} → z ≡ eqb x 0 → z ≡ true → y ≡ sooner
+  pub sooner_blank : eqb x 0 ≡ true → y ≡ sooner
   unfolding if
-  sooner_blank e q = rw (told e q)
+  sooner_blank e = rw e
 
-  module _ {z : Bool} (is : z ≡ eqb x 0) (some : z ≡ false) {none l o : Bool} (n : none ≡ eqb y 0) (a : l ≡ ahead x y) (w : o ≡ (none || l)) where
-    comes : {b : Bool} → o ≡ b → (eqb y 0 || ahead x y) ≡ b
-    comes q = sym (ap₂ ◌||◌ n a) ∙ told w q
-
-    pub sooner_first : o ≡ true → x ≡ sooner
+  -- by whether x leads
+  module _ (some : eqb x 0 ≡ false) {l : Bool} (is : l ≡ (eqb y 0 || ahead x y)) where
+    pub sooner_first : l ≡ true → x ≡ sooner
     unfolding if earlier
-    sooner_first q = rw (told is some, comes q)
+    sooner_first q = rw (some, told is q)
 
-    pub sooner_second : o ≡ false → y ≡ sooner
+    pub sooner_second : l ≡ false → y ≡ sooner
     unfolding if earlier
-    sooner_second q = rw (told is some, comes q)
+    sooner_second q = rw (some, told is q)
 
 -- a replica has closed no more slots than there are
 pub slots_few : {N : Numbers} {ws os : List ℕ} (c : ℕ) {k : Record} → Room N ws os → any_spoiled N ws ≡ false → c < N.n → k ≡ record_at ws c

@@ -42,16 +42,13 @@ pub fn find_running(numbers: Numbers, words: &[u16]) -> Running
     ensures { (os bs : List ℕ) → let k = view numbers (tables words.now os bs) in
         (Marked numbers.n (is_running numbers k) result.mask) × (result.count ≡ running_count numbers k) × (result.slot ≡ common_slot numbers k) }
 {
-    let n = numbers.n;
     let mut found = Running {
         mask: 0,
         count: 0,
         slot: 0,
     };
-    let mut i = 0;
-    while i < n {
-        found = found_with(found, i, load(words, i));
-        i += 1;
+    for c in 0..numbers.n {
+        found = found_with(found, c, load(words, c));
     }
     found
 }

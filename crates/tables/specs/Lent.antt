@@ -1,9 +1,20 @@
--- One name for what is lent: the three memories at a call's two moments.
-use Rattle.std.specs.Prelude.{ℕ, List}
+-- What stands in lent memory, and what a call leaves in it; and for callers in C the three tables at a call's two moments.
+use Rattle.std.specs.Prelude.{ℕ, List, ◌≡◌}
 use Rattle.std.specs.Borrow.{MutBor}
 use denote.Triple.Both.{Both}
+use Rattle.tables.specs.Types.{Memory}
 use Rattle.tables.specs.Layout.{Tables}
 use Rattle.tables.specs.Calls.{tables}
+
+-- what stands in memory
+abbrev pub held : Memory → Tables
+held m = tables m.words.now m.orders.now m.ballots.now
+
+-- it is the same memory still, whatever stands in it now: each table is the one that was lent
+pub record Same (m n : Memory) : Type 0 where
+  pub words : n.words.ghost_name ≡ m.words.ghost_name
+  pub orders : n.orders.ghost_name ≡ m.orders.ghost_name
+  pub ballots : n.ballots.ghost_name ≡ m.ballots.ghost_name
 
 abbrev pub Lent : Type 0
 Lent = Both (MutBor (List ℕ)) (MutBor (List ℕ))

@@ -1,18 +1,19 @@
 // How many messages a replica has heard, and how many of them say a word. Inner code: no calls of the library.
 #![tactic(auto)]
 
-ghost use Rattle.std.specs.Prelude.{◌≡◌, ◌≤◌};
+ghost use Rattle.std.specs.Prelude.{◌≡◌, ◌<◌, ◌≤◌};
 ghost use Rattle.model.specs.declared.Sort.TheVariants.{Proposals};
 ghost use Rattle.model.specs.declared.Word.TheVariants.{Tag};
 ghost use Rattle.model.specs.Limits.{most_replicas};
-ghost use Rattle.model.specs.Rules.{tally, majority_tag};
+ghost use Rattle.model.specs.Rules.{seen, tally, majority_tag};
+ghost use Rattle.tables.specs.Lent.{held};
 ghost use Rattle.tallies.specs.Heard.{InPhase, heard_by};
 ghost use Rattle.tallies.specs.Counts.{Counted, backed, Leading};
 
 use messages::words::heard_word;
-use model::{Numbers, Sort};
-use values::one_if;
-use values::words::{is_sent, proposes, says, tag_of};
+use model::{Numbers, Sort, Word};
+use tables::{Address, Memory};
+use values::words::{is, is_sent, tag_of};
 
 // Of the messages heard: all, those that say 0, those that say 1.
 #[derive(Clone, Copy)]
@@ -29,139 +30,114 @@ struct Lead {
     by: usize,
 }
 
+// What was heard of a sender.
+#[inline(always)]
+fn heard(
+    numbers: Numbers,
+    who: usize,
+    sort: Sort,
+    slot: usize,
+    phase: usize,
+    sender: usize,
+    memory: &Memory,
+) -> Word
+    requires { (InPhase numbers who sort slot phase (held memory.now)) × (sender < numbers.n) }
+    ensures { result ≡ seen (heard_by numbers who slot phase (held memory.now)) sort phase sender }
+{
+    let at = Address {
+        sort,
+        slot,
+        phase,
+        sender,
+    };
+    heard_word(numbers, who, at, memory)
+}
+
 // All three are counted in one pass.
+#[tactic(auto, using(crate::proofs::CountLaws::counting))]
 pub fn count_heard(
     numbers: Numbers,
     who: usize,
     sort: Sort,
     slot: usize,
     phase: usize,
-    words: &[u16],
-    orders: &[u64],
-    ballots: &[u8],
+    memory: &Memory,
 ) -> Count
-    requires { InPhase numbers who sort slot phase words.now orders.now ballots.now }
-    ensures { Counted numbers (heard_by numbers who slot phase words.now orders.now ballots.now) sort phase result }
+    requires { InPhase numbers who sort slot phase (held memory.now) }
+    ensures { Counted numbers (heard_by numbers who slot phase (held memory.now)) sort phase result }
 {
-    let n = numbers.n;
-    let mut all = 0;
-    let mut zeros = 0;
-    let mut ones = 0;
-    let mut i = 0;
-    while i < n {
-        let word = heard_word(numbers, who, sort, slot, phase, i, words, orders, ballots);
-        all += one_if(is_sent(word));
-        zeros += one_if(says(false, word));
-        ones += one_if(says(true, word));
-        i += 1;
+    let mut count = Count {
+        all: 0,
+        zeros: 0,
+        ones: 0,
+    };
+    for sender in 0..numbers.n {
+        let word = heard(numbers, who, sort, slot, phase, sender, memory);
+        count.all += usize::from(is_sent(word));
+        count.zeros += usize::from(is(Word::Say(false), word));
+        count.ones += usize::from(is(Word::Say(true), word));
     }
-    Count { all, zeros, ones }
+    count
 }
 
 // How many propose the tag.
-fn tag_tally(
-    numbers: Numbers,
-    who: usize,
-    slot: usize,
-    tag: u64,
-    words: &[u16],
-    orders: &[u64],
-    ballots: &[u8],
-) -> usize
-    requires { InPhase numbers who Proposals slot 0 words.now orders.now ballots.now }
-    ensures { result ≡ tally numbers (heard_by numbers who slot 0 words.now orders.now ballots.now) Proposals 0 (Tag tag) }
+fn tag_tally(numbers: Numbers, who: usize, slot: usize, tag: u64, memory: &Memory) -> usize
+    requires { InPhase numbers who Proposals slot 0 (held memory.now) }
+    ensures { result ≡ tally numbers (heard_by numbers who slot 0 (held memory.now)) Proposals 0 (Tag tag) }
 {
-    let n = numbers.n;
-    let mut total = 0;
-    let mut i = 0;
-    while i < n {
-        let word = heard_word(
-            numbers,
-            who,
-            Sort::Proposals,
-            slot,
-            0,
-            i,
-            words,
-            orders,
-            ballots,
-        );
-        total += one_if(proposes(tag, word));
-        i += 1;
-    }
-    total
+    (0..numbers.n)
+        .filter(|sender| {
+            let word = heard(numbers, who, Sort::Proposals, slot, 0, *sender, memory);
+            is(Word::Tag(tag), word)
+        })
+        .count()
 }
 
 // A tag against the leading one.
+#[tactic(auto, using(model::proofs::Branches::picks), unfolding(crate::specs::Counts::backed))]
+#[inline(always)]
 fn back(lead: Lead, x: u64) -> Lead
     requires { lead.by ≤ most_replicas }
     ensures { result ≡ backed lead x }
 {
     if lead.by == 0 {
-        return Lead { tag: x, by: 1 };
-    }
-    if x == lead.tag {
-        return Lead {
-            tag: lead.tag,
+        Lead { tag: x, by: 1 }
+    } else if x == lead.tag {
+        Lead {
             by: lead.by + 1,
-        };
-    }
-    Lead {
-        tag: lead.tag,
-        by: lead.by - 1,
+            ..lead
+        }
+    } else {
+        Lead {
+            by: lead.by - 1,
+            ..lead
+        }
     }
 }
 
 // The only tag that can have a majority. Each sender that backs the leading tag is set off against one that doesn't (the
 // majority vote of Boyer and Moore), so that no tag is counted for each sender.
-fn leading_tag(
-    numbers: Numbers,
-    who: usize,
-    slot: usize,
-    words: &[u16],
-    orders: &[u64],
-    ballots: &[u8],
-) -> u64
-    requires { InPhase numbers who Proposals slot 0 words.now orders.now ballots.now }
-    ensures { Leading numbers (heard_by numbers who slot 0 words.now orders.now ballots.now) result }
+fn leading_tag(numbers: Numbers, who: usize, slot: usize, memory: &Memory) -> u64
+    requires { InPhase numbers who Proposals slot 0 (held memory.now) }
+    ensures { Leading numbers (heard_by numbers who slot 0 (held memory.now)) result }
 {
-    let n = numbers.n;
     let mut lead = Lead { tag: 0, by: 0 };
-    let mut i = 0;
-    while i < n {
-        let word = heard_word(
-            numbers,
-            who,
-            Sort::Proposals,
-            slot,
-            0,
-            i,
-            words,
-            orders,
-            ballots,
-        );
+    for sender in 0..numbers.n {
+        let word = heard(numbers, who, Sort::Proposals, slot, 0, sender, memory);
         lead = back(lead, tag_of(word));
-        i += 1;
     }
     lead.tag
 }
 
-// The tag that has a majority among the proposals heard, 0 if none has.
-pub fn majority_tag(
-    numbers: Numbers,
-    who: usize,
-    slot: usize,
-    words: &[u16],
-    orders: &[u64],
-    ballots: &[u8],
-) -> u64
-    requires { InPhase numbers who Proposals slot 0 words.now orders.now ballots.now }
-    ensures { result ≡ majority_tag numbers (heard_by numbers who slot 0 words.now orders.now ballots.now) }
+// The tag that has a majority among the proposals heard, 0 if none has: "Tag 0 is no order".
+pub fn majority_tag(numbers: Numbers, who: usize, slot: usize, memory: &Memory) -> u64
+    requires { InPhase numbers who Proposals slot 0 (held memory.now) }
+    ensures { result ≡ majority_tag numbers (heard_by numbers who slot 0 (held memory.now)) }
 {
-    let tag = leading_tag(numbers, who, slot, words, orders, ballots);
-    let votes = tag_tally(numbers, who, slot, tag, words, orders, ballots);
-    if numbers.n / 2 + 1 <= votes {
-        return tag;
+    let tag = leading_tag(numbers, who, slot, memory);
+    if numbers.n / 2 + 1 <= tag_tally(numbers, who, slot, tag, memory) {
+        tag
+    } else {
+        0
     }
-    0
 }

@@ -6,37 +6,17 @@ use model::{
     COIN_ENTRIES, DEFAULT_PHASES, MOST_PHASES, MOST_REPLICAS, MOST_SLOTS, MOST_TAGS, Numbers, Plan,
 };
 
+// As many faults as replicas are refused before 2f + 1 is computed, so that it does not wrap.
+#[tactic(auto, using(std::proofs::lemmas::Bool::Decides::nat_tests), unfolding(model::specs::Limits::limited))]
 pub fn numbers_limited(numbers: Numbers) -> bool
     ensures { result ≡ limited numbers }
 {
-    let n = numbers.n;
-    let f = numbers.f;
-    if MOST_REPLICAS < n {
-        return false;
-    }
-    // So that 2f + 1 does not wrap; no replica at all are too few for any f.
-    if n <= f {
-        return false;
-    }
-    if n < f + f + 1 {
-        return false;
-    }
-    if numbers.slots < 1 {
-        return false;
-    }
-    if MOST_SLOTS < numbers.slots {
-        return false;
-    }
-    if numbers.phases < 1 {
-        return false;
-    }
-    if MOST_PHASES < numbers.phases {
-        return false;
-    }
-    if numbers.room < 1 {
-        return false;
-    }
-    numbers.room <= MOST_TAGS
+    (1..=MOST_REPLICAS).contains(&numbers.n)
+        && numbers.f < numbers.n
+        && 2 * numbers.f + 1 <= numbers.n
+        && (1..=MOST_SLOTS).contains(&numbers.slots)
+        && (1..=MOST_PHASES).contains(&numbers.phases)
+        && (1..=MOST_TAGS).contains(&numbers.room)
 }
 
 pub fn plan_numbers(plan: Plan) -> Numbers
@@ -45,11 +25,8 @@ pub fn plan_numbers(plan: Plan) -> Numbers
     let asked = plan.numbers;
     if asked.phases == 0 {
         return Numbers {
-            n: asked.n,
-            f: asked.f,
-            slots: asked.slots,
             phases: DEFAULT_PHASES,
-            room: asked.room,
+            ..asked
         };
     }
     asked
@@ -58,8 +35,5 @@ pub fn plan_numbers(plan: Plan) -> Numbers
 pub fn plan_limited(plan: Plan) -> bool
     ensures { result ≡ plan_limited plan }
 {
-    if !numbers_limited(plan_numbers(plan)) {
-        return false;
-    }
-    plan.start < COIN_ENTRIES
+    numbers_limited(plan_numbers(plan)) && plan.start < COIN_ENTRIES
 }

@@ -1,15 +1,12 @@
-use borrow.Author.Tests.{not-true, not-false}
-use Rattle.acts.proofs.StepLaws.{stays}
+use Rattle.acts.proofs.StepLaws.{stops}
 use Rattle.acts.proofs.ActLaws.{begin_asked, begin_made}
 use Rattle.acts.proofs.begin.Goals as goal
 
-pub returns-then-not-is_accepted : goal.returns-then-not-is_accepted
-returns-then-not-is_accepted c = stays _ _ _ _ c.judge_begin-effect.ensures c.is_accepted.ensures (not-true _ c.if-not-is_accepted.true-raw)
-    c.answer_of.ensures
+pub returns-in_err-tag-clause-outcome : goal.returns-in_err-tag-clause-outcome
+returns-in_err-tag-clause-outcome c = stops _ _ _ _ _ _ c.from_residual.ensures.1 c.in_err-tag.ensures
 
 pub propose-requires : goal.propose-requires
-propose-requires c = begin_asked _ _ _ _ _ _ c.judge_begin-effect.ensures c.is_accepted.ensures (not-false _ c.if-not-is_accepted.false-raw)
-    c.sent_tag-tag.ensures
+propose-requires c = begin_asked _ _ _ _ c.in_ok-tag.ensures
 
-pub returns : goal.returns
-returns c = search (begin_made, not-false)
+pub returns-clause-outcome : goal.returns-clause-outcome
+returns-clause-outcome c = begin_made _ _ _ _ c.in_ok-tag.ensures c.propose.ensures.left

@@ -1,19 +1,12 @@
-use borrow.Author.Tests.{not-true, not-false}
-use Rattle.acts.proofs.StepLaws.{stays}
-use Rattle.acts.proofs.ActLaws.{sort_asked, mark_asked, hear_made}
+use Rattle.acts.proofs.StepLaws.{stops}
+use Rattle.acts.proofs.ActLaws.{mark_asked, hear_made}
 use Rattle.acts.proofs.hear.Goals as goal
 
-pub returns-then-not-is_accepted : goal.returns-then-not-is_accepted
-returns-then-not-is_accepted c = stays _ _ _ _ c.judge_hear-effect.ensures c.is_accepted.ensures (not-true _ c.if-not-is_accepted.true-raw)
-    c.answer_of.ensures
-
-pub sort_named-sort-requires : goal.sort_named-sort-requires
-sort_named-sort-requires c = sort_asked _ _ _ _ _ _ _ c.judge_hear-effect.ensures c.is_accepted.ensures (not-false _ c.if-not-is_accepted.false-raw)
+pub returns-in_err-at-clause-outcome : goal.returns-in_err-at-clause-outcome
+returns-in_err-at-clause-outcome c = stops _ _ _ _ _ _ c.from_residual.ensures.1 c.in_err-at.ensures
 
 pub mark_heard-requires : goal.mark_heard-requires
-mark_heard-requires c = mark_asked _ _ _ _ _ _ _ c.judge_hear-effect.ensures c.is_accepted.ensures (not-false _ c.if-not-is_accepted.false-raw)
-    c.sort_named-sort.ensures
+mark_heard-requires c = mark_asked _ _ _ _ c.in_ok-at.ensures
 
-pub returns : goal.returns
-returns c = hear_made _ _ _ _ _ _ _ c.judge_hear-effect.ensures c.is_accepted.ensures (not-false _ c.if-not-is_accepted.false-raw)
-    c.sort_named-sort.ensures c.mark_heard.ensures
+pub returns-clause-outcome : goal.returns-clause-outcome
+returns-clause-outcome c = hear_made _ _ _ _ c.in_ok-at.ensures c.mark_heard.ensures

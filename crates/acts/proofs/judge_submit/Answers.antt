@@ -1,20 +1,13 @@
-use Rattle.tables.specs.Calls.{tables}
-use Rattle.acts.proofs.GateLaws.{stops_spoiled, stops_vetted, rules_vetted, admits_vetted}
+use Rattle.std.proofs.Common.{refl}
+use Rattle.acts.proofs.GateLaws.{admitted, judge_ends, judge_rules}
 use Rattle.acts.proofs.RuleLaws.{acting, submits}
 use Rattle.acts.proofs.judge_submit.Goals as goal
 
-pub returns-then-run_spoiled : goal.returns-then-run_spoiled
-returns-then-run_spoiled c = search stops_spoiled
+pub returns-in_err-admit : goal.returns-in_err-admit
+returns-in_err-admit c = judge_ends _ _ _ _ _ refl _ _ c.from_residual.ensures.1 c.in_err-admit.ensures
 
 pub submit_rule-requires : goal.submit_rule-requires
-submit_rule-requires c = let args = c.args in
-    acting
-    (admits_vetted _ args.strip.now (tables args.words.now args.orders.now args.ballots.now) args.who _
-    c.run_spoiled.ensures c.if-run_spoiled.false c.measure-sizes.ensures c.vet.ensures
-    c.in-Passed.is)
+submit_rule-requires c = acting (admitted c.in_ok-admit.ensures)
 
-pub returns-in-Refused : goal.returns-in-Refused
-returns-in-Refused c = search stops_vetted
-
-pub returns-in-Passed : goal.returns-in-Passed
-returns-in-Passed c = search (rules_vetted, submits)
+pub returns : goal.returns
+returns c = judge_rules _ _ _ _ _ refl c.in_ok-admit.ensures (submits _ _ _ _ _ c.submit_rule.ensures)

@@ -1,4 +1,3 @@
-use Rattle.advance.proofs.RuleLaws.{by_idle, by_exchange, by_state, by_vote, by_find}
 use Rattle.advance.proofs.StandLaws.{in_exchange, in_state, vote_asks, in_find}
 use Rattle.advance.proofs.advance_rule.Goals as goal
 
@@ -13,18 +12,3 @@ vote_rule-requires c = vote_asks _ _ _ c.requires.0 c.requires.1 c.requires.2 c.
 
 pub find_rule-requires : goal.find_rule-requires
 find_rule-requires c = search in_find
-
-pub returns-in-Idle : goal.returns-in-Idle
-returns-in-Idle c = search by_idle
-
-pub returns-in-Exchange : goal.returns-in-Exchange
-returns-in-Exchange c = search by_exchange
-
-pub returns-in-State : goal.returns-in-State
-returns-in-State c = search by_state
-
-pub returns-in-Vote : goal.returns-in-Vote
-returns-in-Vote c = search by_vote
-
-pub returns-in-Find : goal.returns-in-Find
-returns-in-Find c = search by_find

@@ -1,14 +1,23 @@
-use Rattle.archive.proofs.CallLaws.{bytes_many, bytes_odd, entries_short, entries_written}
+use native.Mathlib.Omega.{arith}
+use Rattle.std.proofs.lemmas.Bool.Decides.{nat_tests}
+use Rattle.model.specs.Tests.{if}
+use Rattle.model.specs.TurnedAway.{unless}
+use Rattle.shelf.specs.Layouts.{length_entries}
+use Rattle.shelf.specs.Calls.{rearranged}
 use Rattle.archive.proofs.to_entries.Goals as goal
 
 pub returns-then-stored-gt-MOST_STORED : goal.returns-then-stored-gt-MOST_STORED
-returns-then-stored-gt-MOST_STORED c = search bytes_many
+unfolding rearranged unless if
+returns-then-stored-gt-MOST_STORED c = grind (arith, nat_tests)
 
 pub returns-then-stored-ne0 : goal.returns-then-stored-ne0
-returns-then-stored-ne0 c = search bytes_odd
+unfolding rearranged unless if
+returns-then-stored-ne0 c = grind (arith, nat_tests)
 
 pub returns-then-entries-count : goal.returns-then-entries-count
-returns-then-entries-count c = search entries_short
+unfolding rearranged unless if
+returns-then-entries-count c = grind (arith, nat_tests)
 
 pub returns : goal.returns
-returns c = search entries_written
+unfolding rearranged unless if
+returns c = grind (arith, nat_tests, length_entries)

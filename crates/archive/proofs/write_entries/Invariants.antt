@@ -1,10 +1,9 @@
--- `archive::write_entries` meets its contract. The loop keeps `Filling`: the entries from `left` on stand in their places. The measure is what is left.
-use Rattle.shelf.specs.Planes.{entries_of}
-use Rattle.archive.proofs.FillLaws.{Filling}
+-- The entries before `place` stand.
+use mathlib.Core.Path.{◌≡◌}
+use mathlib.Core.List.{map}
+use lib.ListN.{take}
+use Rattle.shelf.specs.Planes.{upto, entry_count, entry_at}
 use Rattle.archive.proofs.write_entries.Given as goal
 
-abbrev pub invariant-loop-left : goal.invariant-loop-left
-invariant-loop-left l = Filling (entries_of l.stored) l.count l.initial.entries l.left l.entries
-
-abbrev pub decreases-loop-left : goal.decreases-loop-left
-decreases-loop-left l = l.left
+abbrev pub invariant-loop-place : goal.invariant-loop-place
+invariant-loop-place l = take l.place l.entries ≡ map (entry_at (entry_count l.stored) l.stored) (upto l.place)

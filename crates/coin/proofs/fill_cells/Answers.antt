@@ -1,16 +1,20 @@
-use mathlib.Core.Path.{refl}
-use native.Mathlib.Nat.{suc-mul}
+use mathlib.Core.Path.{◌≡◌, refl}
+use Prim.Native.Nat.{◌+◌, ◌-◌, ◌*◌, ◌≤◌}
 use native.Mathlib.Omega.{arith}
-use Rattle.coin.proofs.Filling.{row_inside, none_filled, row_more}
+use lib.ListN.{length}
+use Rattle.coin.proofs.Filling.{none_filled, row_inside, row_long, row_more}
 use Rattle.coin.proofs.fill_cells.Goals as goal
 
 pub loop-slot-init : goal.loop-slot-init
-loop-slot-init c = (omega arith, refl, omega arith, omega arith, search none_filled)
+loop-slot-init c = none_filled _ _ _
 
 pub loop-slot-preserved : goal.loop-slot-preserved
-loop-slot-preserved c = let a = c.args in
+loop-slot-preserved c =
+    let a = c.args in
     let l = c.loop-slot in
-    let f = c.fill_row in
-    let room = row_inside a.slots a.phases l.slot (omega arith) l.invariant.2 in
-    let more = row_more _ _ _ _ l.invariant.3 l.invariant.2 (omega arith) l.invariant.4 f.ensures in
-    (omega arith, omega arith, omega (arith, suc-mul l.slot a.phases), omega arith, more)
+    let at = l.slot * a.phases in
+    let whole : at + a.phases - at ≡ a.phases = omega arith in
+    let room : at + a.phases ≤ length l.strip = omega (arith, row_inside a.slots a.phases l.slot (omega arith)) in
+    let long = row_long l.strip at a.phases room in
+    let done = rw (whole, long) at c.fill_row.ensures in
+    rw whole (row_more a.phases a.start l.slot refl a.strip.now l.invariant done)

@@ -1,37 +1,38 @@
-use borrow.Author.Tests.{not-true, not-false}
-use Rattle.model.proofs.Branches.{told}
-use Rattle.tables.specs.Calls.{tables}
-use Rattle.opening.proofs.OpenLaws.{plan_bounds, on_bad_plan, on_short, openable, on_open}
 use borrow.Author.Rules.{rules}
+use Rattle.tables.specs.Lent.{held}
+use Rattle.opening.proofs.OpenLaws.{on_bad_plan, plan_bounds, on_short_tables, on_short_strip, openable, on_open}
+use Rattle.opening.proofs.open.Goals.{then-not-tables_long-via-then-not-tables_long, then-not-tables_long-via-else-not-tables_long+then-strip-numbers}
 use Rattle.opening.proofs.open.Goals as goal
 
-pub returns-then-not-plan_limited : goal.returns-then-not-plan_limited
-returns-then-not-plan_limited c = search (told, not-true, on_bad_plan)
+pub returns-then-not-plan_limited-clause-outcome : goal.returns-then-not-plan_limited-clause-outcome
+returns-then-not-plan_limited-clause-outcome c = search on_bad_plan
 
-pub too_short-requires : goal.too_short-requires
-too_short-requires c = search (told, not-false, plan_bounds)
+pub tables_long-requires : goal.tables_long-requires
+tables_long-requires c = search plan_bounds
 
-pub returns-then-too_short : goal.returns-then-too_short
-returns-then-too_short c = on_short _ _ _ (told c.plan_limited.ensures (not-false _ c.if-not-plan_limited.false-raw)) c.plan_numbers-numbers.ensures
-    (told c.too_short.ensures c.if-too_short.true)
+pub overflow_mul-numbers : goal.overflow_mul-numbers
+overflow_mul-numbers c =
+    let b = plan_bounds c.args.plan c.plan_limited.ensures c.if-not-plan_limited.false c.plan_numbers-numbers.ensures in search rules
+
+pub returns-then-not-tables_long-clause-outcome : goal.returns-then-not-tables_long-clause-outcome
+returns-then-not-tables_long-clause-outcome c = elim c.then-not-tables_long.branch [
+  | then-not-tables_long-via-then-not-tables_long w ↦ search on_short_tables
+  | then-not-tables_long-via-else-not-tables_long+then-strip-numbers w ↦ search on_short_strip
+]
 
 pub clear_tables-requires : goal.clear_tables-requires
-clear_tables-requires c = let a = c.args in
-    let o =
-    openable a.plan (tables a.words.now a.orders.now a.ballots.now) a.strip.now
-    (told c.plan_limited.ensures (not-false _ c.if-not-plan_limited.false-raw)) c.plan_numbers-numbers.ensures
-    (told c.too_short.ensures c.if-too_short.false) in
+clear_tables-requires c =
+    let o = openable c.args.plan c.plan_limited.ensures c.if-not-plan_limited.false c.plan_numbers-numbers.ensures (held c.args.memory.now) c.args.strip.now
+    c.measure.ensures c.tables_long.ensures c.if-not-tables_long.false c.if-strip-numbers.false in
     (o.numbers, o.tables)
 
 pub fill_cells-requires : goal.fill_cells-requires
-fill_cells-requires c = let a = c.args in
-    let o =
-    openable a.plan (tables a.words.now a.orders.now a.ballots.now) a.strip.now
-    (told c.plan_limited.ensures (not-false _ c.if-not-plan_limited.false-raw)) c.plan_numbers-numbers.ensures
-    (told c.too_short.ensures c.if-too_short.false) in
+fill_cells-requires c =
+    let o = openable c.args.plan c.plan_limited.ensures c.if-not-plan_limited.false c.plan_numbers-numbers.ensures (held c.args.memory.now) c.args.strip.now
+    c.measure.ensures c.tables_long.ensures c.if-not-tables_long.false c.if-strip-numbers.false in
     search rules
 
-pub returns : goal.returns
-returns c = on_open _ _ _ (told c.plan_limited.ensures (not-false _ c.if-not-plan_limited.false-raw)) c.plan_numbers-numbers.ensures
-    (told c.too_short.ensures c.if-too_short.false) c.clear_tables.ensures
-    c.fill_cells.ensures
+pub returns-clause-outcome : goal.returns-clause-outcome
+returns-clause-outcome c =
+    on_open c.args.plan c.plan_limited.ensures c.if-not-plan_limited.false c.plan_numbers-numbers.ensures (held c.args.memory.now) c.args.strip.now
+    c.measure.ensures c.tables_long.ensures c.if-not-tables_long.false c.if-strip-numbers.false c.clear_tables.ensures.left c.fill_cells.ensures

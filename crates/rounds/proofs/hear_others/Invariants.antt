@@ -1,22 +1,18 @@
-use Prim.Native.Nat.{ℕ, ◌≤◌, ◌-◌}
-use mathlib.Core.Bool.{◌&&◌, not, false}
-use mathlib.Core.List.{List}
-use mathlib.Core.Path.{◌≡◌}
+use Rattle.std.proofs.Common.{◌≤◌, ℕ, List, ◌≡◌, false, ◌&&◌, not}
 use lib.Dec.{eqb}
-use lib.ListN.{length}
 use Rattle.model.specs.Rack.{sort_number}
 use Rattle.model.specs.Rules.{strip_short}
 use Rattle.model.specs.Conductor.{for_each, does, hear}
 use Rattle.tables.specs.Layout.{has_bit}
-use Rattle.tables.specs.Calls.{tables}
+use Rattle.tables.specs.Lent.{held, Same}
 use Rattle.rounds.specs.Made.{Made}
 use Rattle.rounds.proofs.hear_others.Given as goal
 
-abbrev pub invariant-loop-d : goal.invariant-loop-d
-invariant-loop-d l = (l.d ≤ l.n) × (l.n ≡ l.numbers.n) × (l.count ≤ l.d) × (length l.words ≡ length l.initial.words)
-    × ((strip : List ℕ) → strip_short l.numbers strip ≡ false
-    → Made l.numbers strip (for_each l.d (λ e. has_bit l.running e && not (eqb e l.who)) (λ e. does (hear (sort_number l.sort) l.slot l.phase e) l.who))
-    (tables l.initial.words l.orders l.ballots) (tables l.words l.orders l.ballots) l.count)
-
-abbrev pub decreases-loop-d : goal.decreases-loop-d
-decreases-loop-d l = l.n - l.d
+abbrev pub invariant-loop-sender : goal.invariant-loop-sender
+invariant-loop-sender l = record {
+  same : Same l.initial.memory l.memory;
+  few : l.count ≤ l.sender;
+  made : (strip : List ℕ) → strip_short l.numbers strip ≡ false → Made l.numbers strip
+      (for_each l.sender (λ d. has_bit l.running d && not (eqb d l.who))
+      (λ d. does (hear (sort_number l.first.sort) l.first.slot l.first.phase d) l.who)) (held l.initial.memory) (held l.memory) l.count;
+}

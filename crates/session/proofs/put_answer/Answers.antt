@@ -1,27 +1,18 @@
-use mathlib.Core.Path.{ap}
-use Rattle.files.specs.declared.Said.TheVariants.{Answered}
-use Rattle.model.specs.declared.Answer.TheVariants.{Refused, Done, Ran, Opened, Conducted}
-use Rattle.report.proofs.PageLaws.{nothing}
+use mathlib.Core.Path.{refl, ap}
+use Rattle.model.specs.declared.Answer.{Answer}
+use Rattle.model.specs.declared.Answer.TheVariants.{Refused, Opened}
+use Rattle.files.specs.Found.{Ok, Some}
 use Rattle.files.specs.Reported.{said_line}
-use Rattle.session.proofs.ReportLaws.{says}
+use Rattle.session.proofs.ReportLaws.{says, no_line}
 use Rattle.session.proofs.put_answer.Goals as goal
 
-pub returns-in-Refused : goal.returns-in-Refused
+pub returns-in-Refused-clause-text : goal.returns-in-Refused-clause-text
 unfolding said_line
-returns-in-Refused c = says _ _ _ (Answered (Refused _)) (ap Answered c.in-Refused.is) c.put_refused.ensures
+returns-in-Refused-clause-text c = says _ _ _ (Ok (Some (Refused _))) (ap (λ (a : Answer). Ok (Some a)) c.in-Refused.is) c.put_refused.ensures.text
 
-pub returns-in-Done : goal.returns-in-Done
+pub returns-in-Opened-clause-text : goal.returns-in-Opened-clause-text
 unfolding said_line
-returns-in-Done c = says _ _ _ (Answered Done) (ap Answered c.in-Done.is) (nothing _)
+returns-in-Opened-clause-text c = says _ _ _ (Ok (Some (Opened _))) (ap (λ (a : Answer). Ok (Some a)) c.in-Opened.is) c.put_opened.ensures.text
 
-pub returns-in-Ran : goal.returns-in-Ran
-unfolding said_line
-returns-in-Ran c = says _ _ _ (Answered (Ran _)) (ap Answered c.in-Ran.is) (nothing _)
-
-pub returns-in-Opened : goal.returns-in-Opened
-unfolding said_line
-returns-in-Opened c = says _ _ _ (Answered (Opened _)) (ap Answered c.in-Opened.is) c.put_opened.ensures
-
-pub returns-in-Conducted : goal.returns-in-Conducted
-unfolding said_line
-returns-in-Conducted c = says _ _ _ (Answered (Conducted _ _)) (ap Answered c.in-Conducted.is) (nothing _)
+pub returns-in_default : goal.returns-in_default
+returns-in_default c = record { same = refl; text = no_line _ _ _ c.in_default.not-Refused c.in_default.not-Opened }

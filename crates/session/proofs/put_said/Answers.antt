@@ -1,13 +1,14 @@
-use Rattle.files.specs.declared.Said.TheVariants.{Nothing}
+use mathlib.Core.Path.{ap, ◌∙◌}
 use Rattle.report.proofs.PageLaws.{nothing}
+use Rattle.files.specs.Found.{Ok, Err, None}
 use Rattle.files.specs.Reported.{said_line}
 use Rattle.session.proofs.ReportLaws.{says}
 use Rattle.session.proofs.put_said.Goals as goal
 
-pub returns-in-Nothing : goal.returns-in-Nothing
+pub returns-in-Ok-None-clause-text : goal.returns-in-Ok-None-clause-text
 unfolding said_line
-returns-in-Nothing c = says _ _ _ Nothing c.in-Nothing.is (nothing _)
+returns-in-Ok-None-clause-text c = says _ _ _ (Ok None) (c.in-Ok-None.is ∙ ap Ok (rw c.in-Ok-None.is at c.in-Ok-None.field-0-is)) (nothing _)
 
-pub returns-in-Stopped : goal.returns-in-Stopped
+pub returns-in-Err-clause-text : goal.returns-in-Err-clause-text
 unfolding said_line
-returns-in-Stopped c = search says
+returns-in-Err-clause-text c = says _ _ _ (Err _) c.in-Err.is c.put_refused.ensures.text

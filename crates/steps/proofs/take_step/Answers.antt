@@ -1,6 +1,5 @@
 use Rattle.acts.proofs.StepLaws.{taken}
 use Rattle.steps.proofs.take_step.Goals as goal
 
--- a crash is lent the words alone
-pub returns-in-Crash : goal.returns-in-Crash
-returns-in-Crash c = taken _ _ _ _ c.in-Crash.is (c.crash.ensures _ _ _)
+pub returns-in-Crash-clause-outcome : goal.returns-in-Crash-clause-outcome
+returns-in-Crash-clause-outcome c = taken _ _ _ _ c.in-Crash.is (c.crash.ensures _ _ _)

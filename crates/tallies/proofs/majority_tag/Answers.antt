@@ -1,8 +1,8 @@
 use Rattle.tallies.proofs.LeadLaws.{is_majority, is_none}
 use Rattle.tallies.proofs.majority_tag.Goals as goal
 
-pub returns-then-numbers-votes : goal.returns-then-numbers-votes
-returns-then-numbers-votes c = search is_majority
+pub returns-then-numbers-tag_tally : goal.returns-then-numbers-tag_tally
+returns-then-numbers-tag_tally c = search is_majority
 
-pub returns : goal.returns
-returns c = search is_none
+pub returns-else-numbers-tag_tally : goal.returns-else-numbers-tag_tally
+returns-else-numbers-tag_tally c = search is_none

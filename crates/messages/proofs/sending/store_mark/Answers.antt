@@ -1,9 +1,8 @@
-use Rattle.messages.proofs.CellLaws.{heard_inside}
-use borrow.Author.Rules.{scaled_Fits}
+use Rattle.messages.proofs.CellLaws.{inside}
 use Rattle.messages.proofs.sending.store_mark.Goals as goal
 
-pub offset_bounds-words-at : goal.offset_bounds-words-at
-offset_bounds-words-at c = search (scaled_Fits, heard_inside)
+pub offset_bounds-words-heard_place : goal.offset_bounds-words-heard_place
+offset_bounds-words-heard_place c = search inside
 
-pub bounds-words-at : goal.bounds-words-at
-bounds-words-at c = search heard_inside
+pub bounds-words-heard_place : goal.bounds-words-heard_place
+bounds-words-heard_place c = search inside

@@ -1,14 +1,15 @@
+use Rattle.model.proofs.Branches.{tests}
 use Rattle.orders.proofs.RuleLaws.{begin_busy, begin_full, begin_none, begin_sends}
 use Rattle.orders.proofs.rule.begin_rule.Goals as goal
 
-pub returns-then-not-is_idle : goal.returns-then-not-is_idle
-returns-then-not-is_idle c = search begin_busy
+pub returns-then-ne : goal.returns-then-ne
+returns-then-ne c = search (begin_busy, c.if-ne.ensures)
 
 pub returns-then-numbers-closed : goal.returns-then-numbers-closed
-returns-then-numbers-closed c = search begin_full
+returns-then-numbers-closed c = search (begin_full, c.if-ne.ensures, tests)
 
-pub returns-then-is_blank : goal.returns-then-is_blank
-returns-then-is_blank c = search begin_none
+pub returns-then-first-eq0 : goal.returns-then-first-eq0
+returns-then-first-eq0 c = search (begin_none, c.if-ne.ensures, tests)
 
 pub returns : goal.returns
-returns c = search begin_sends
+returns c = search (begin_sends, c.if-ne.ensures, tests)

@@ -1,8 +1,8 @@
 use Rattle.report.proofs.BenchLaws.{lit, dark}
 use Rattle.report.proofs.benches.put_light.Goals as goal
 
-pub returns-then-crashed-eq0 : goal.returns-then-crashed-eq0
-returns-then-crashed-eq0 c = search lit
+pub returns-then-crashed-eq0-clause-text : goal.returns-then-crashed-eq0-clause-text
+returns-then-crashed-eq0-clause-text c = search lit
 
-pub returns : goal.returns
-returns c = search dark
+pub returns-else-crashed-eq0-clause-text : goal.returns-else-crashed-eq0-clause-text
+returns-else-crashed-eq0-clause-text c = search dark

@@ -1,8 +1,6 @@
 use Rattle.report.proofs.PageLaws.{then}
 use Rattle.report.proofs.lines.put_opened.Goals as goal
 
-pub returns : goal.returns
-returns c = then _ _ _ c.put_text-controllers.ensures
-    (then _ _ _ c.put_decimal-n.ensures
-    (then _ _ _ c.put_text-spare.ensures
-    (then _ _ _ c.put_decimal-f.ensures c.put_text.ensures)))
+pub returns-clause-text : goal.returns-clause-text
+returns-clause-text c = then _ _ _ c.put_text.ensures.text (then _ _ _ c.put_decimal.ensures.text (then _ _ _ c.put_text-2.ensures.text
+    (then _ _ _ c.put_decimal-2.ensures.text c.put_text-3.ensures.text)))

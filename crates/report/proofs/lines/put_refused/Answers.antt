@@ -3,9 +3,6 @@ use Rattle.files.specs.Text.{decimal}
 use Rattle.report.proofs.PageLaws.{then, same_text}
 use Rattle.report.proofs.lines.put_refused.Goals as goal
 
-pub returns : goal.returns
-returns c = then _ _ _ c.put_text-refused.ensures
-    (then _ _ _ c.put_decimal-number.ensures
-    (then _ _ _ c.put_text-space.ensures
-    (then _ _ _ (same_text _ _ _ (ap decimal c.refusal_number.ensures) c.put_decimal-refusal.ensures)
-    c.put_text.ensures)))
+pub returns-clause-text : goal.returns-clause-text
+returns-clause-text c = then _ _ _ c.put_text.ensures.text (then _ _ _ c.put_decimal.ensures.text (then _ _ _ c.put_text-2.ensures.text
+    (then _ _ _ (same_text _ _ _ (ap decimal c.from.ensures) c.put_decimal-2.ensures.text) c.put_text-3.ensures.text)))

@@ -1,14 +1,10 @@
+use Rattle.std.proofs.Common.{rules}
 use mathlib.Core.Path.{refl}
-use native.Mathlib.Omega.{arith}
 use Rattle.report.proofs.PageLaws.{nothing, more}
 use Rattle.report.proofs.pieces.put_text.Goals as goal
 
-pub loop-i-init : goal.loop-i-init
-loop-i-init c = (omega arith, refl, search nothing)
+pub loop-byte-init : goal.loop-byte-init
+loop-byte-init c = record { same = refl; text = nothing _ }
 
-pub loop-i-preserved : goal.loop-i-preserved
-loop-i-preserved c = (
-  omega arith,
-  omega arith,
-  more _ _ _ c.loop-i-test.true c.loop-i.invariant.2 c.put-end.ensures,
-)
+pub loop-byte-preserved : goal.loop-byte-preserved
+loop-byte-preserved c = record { same = search rules; text = more _ _ _ c.loop-byte-test.true c.loop-byte.invariant.text c.put.ensures.text }

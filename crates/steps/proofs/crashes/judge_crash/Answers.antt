@@ -1,22 +1,16 @@
-use borrow.Author.Tests.{not-true, not-false}
-use mathlib.Core.Path.{◌∙◌}
-use Rattle.steps.proofs.CrashLaws.{missing_is, crash_told}
+use Rattle.std.proofs.Common.{◌∙◌, ap}
+use Rattle.model.specs.declared.Effect.TheVariants.{Halt}
+use Rattle.model.specs.TurnedAway.{effect_in}
+use Rattle.acts.proofs.GateLaws.{turned_away}
+use Rattle.steps.proofs.CrashLaws.{missing_is, made_there}
 use Rattle.steps.proofs.crashes.judge_crash.Goals as goal
 
 pub returns-then-not-record_there : goal.returns-then-not-record_there
-returns-then-not-record_there c = c.judge_missing.ensures ∙ missing_is _ _ _ c.record_there.ensures (not-true _ c.if-not-record_there.true-raw)
+returns-then-not-record_there c = c.missing.ensures ∙ missing_is _ _ _ c.record_there.ensures c.if-not-record_there.true
 
-pub returns-in-Refused : goal.returns-in-Refused
-returns-in-Refused c = search (crash_told, not-false)
+pub returns-in_err-crash_core : goal.returns-in_err-crash_core
+returns-in_err-crash_core c = ap (effect_in (λ _. Halt)) (turned_away c.from_residual.ensures.1)
+    ∙ made_there _ _ _ c.record_there.ensures c.if-not-record_there.false c.load.ensures c.in_err-crash_core.ensures
 
-pub returns-in-Done : goal.returns-in-Done
-returns-in-Done c = search (crash_told, not-false)
-
-pub returns-in-Ran : goal.returns-in-Ran
-returns-in-Ran c = search (crash_told, not-false)
-
-pub returns-in-Opened : goal.returns-in-Opened
-returns-in-Opened c = search (crash_told, not-false)
-
-pub returns-in-Conducted : goal.returns-in-Conducted
-returns-in-Conducted c = search (crash_told, not-false)
+pub returns : goal.returns
+returns c = made_there _ _ _ c.record_there.ensures c.if-not-record_there.false c.load.ensures c.in_ok-crash_core.ensures

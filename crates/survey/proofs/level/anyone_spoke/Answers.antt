@@ -1,12 +1,8 @@
-use native.Mathlib.Omega.{arith}
-use Rattle.model.proofs.Counting.{any_none, any_past, any_found}
+use mathlib.Core.Path.{refl}
+use borrow.Author.Rules.{rules}
+use borrow.Author.Tests.{tests}
+use Rattle.cells.proofs.SearchLaws.{any_below}
 use Rattle.survey.proofs.level.anyone_spoke.Goals as goal
 
-pub loop-i-init : goal.loop-i-init
-loop-i-init c = (omega arith, search any_none)
-
-pub returns-then-has_spoken : goal.returns-then-has_spoken
-returns-then-has_spoken c = search any_found
-
-pub loop-i-preserved : goal.loop-i-preserved
-loop-i-preserved c = (omega arith, search any_past)
+pub returns : goal.returns
+returns c = any_below _ _ _ _ c.any.ensures.ran refl (λ i t q k. search (rules, tests))

@@ -1,6 +1,9 @@
-use Rattle.survey.proofs.LevelLaws.{of_votes}
 use borrow.Author.Rules.{rules}
+use Rattle.survey.proofs.LevelLaws.{of_states, of_votes}
 use Rattle.survey.proofs.level.balloted_in.Goals as goal
 
-pub has_sent-vote-requires : goal.has_sent-vote-requires
-has_sent-vote-requires c = search (of_votes, rules)
+pub has_sent-requires : goal.has_sent-requires
+has_sent-requires c = search (of_states, rules)
+
+pub has_sent-requires-else-has_sent : goal.has_sent-requires-else-has_sent
+has_sent-requires-else-has_sent c = search (of_votes, of_states, rules)
