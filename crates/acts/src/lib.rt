@@ -151,7 +151,7 @@ fn judge_hear(
         ≡ judge numbers strip.now (record { who = who; act = Hear message }) t }
 {
     admit(numbers, who.0, message.sender.0, memory, strip.len())?;
-    hear_rule(numbers, who.0, message, memory)
+    hear_rule(numbers, who.0, message, memory.to_read())
 }
 
 // "The acting controller of a hear is the receiver."

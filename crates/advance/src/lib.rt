@@ -13,14 +13,14 @@ ghost use Rattle.model.specs.TurnedAway.{◌when◌, ◌⊢◌, settle};
 ghost use Rattle.model.specs.Rules.{quorum, majority, exchange_rule, state_rule, conclude, vote_rule, find_rule, advance_rule};
 ghost use Rattle.tables.specs.Bounds.{Bounds};
 ghost use Rattle.tables.specs.Checks.{misplaced};
-ghost use Rattle.tables.specs.Lent.{held};
+ghost use Rattle.tables.specs.Lent.{read};
 ghost use Rattle.messages.specs.Reach.{Reach};
 ghost use Rattle.tallies.specs.Heard.{InSlot, InPhase, heard_by};
 ghost use Rattle.advance.specs.Picked.{picked};
 
 use coin::coin_of;
 use model::{Effect, Numbers, PhaseIndex, Refusal, Round, SlotIndex, Sort, Word};
-use tables::Memory;
+use tables::MemoryRef;
 use tallies::{Count, count_heard, majority_tag};
 
 // 14: "below quota"
@@ -44,9 +44,15 @@ fn value_of(bound: usize, count: Count) -> Option<bool>
     }
 }
 
-fn exchange_rule(numbers: Numbers, who: usize, slot: usize, phase: usize, memory: &Memory) -> Effect
-    requires { InSlot numbers who slot (held memory.now) }
-    ensures { let k = heard_by numbers who slot phase (held memory.now) in
+fn exchange_rule(
+    numbers: Numbers,
+    who: usize,
+    slot: usize,
+    phase: usize,
+    memory: MemoryRef,
+) -> Effect
+    requires { InSlot numbers who slot (read memory) }
+    ensures { let k = heard_by numbers who slot phase (read memory.entry) in
         result ≡ settle (exchange_rule numbers k) }
 {
     let count = count_heard(numbers, who, Sort::Proposals, slot, 0, memory);
@@ -69,9 +75,9 @@ fn vote_of(numbers: Numbers, count: Count) -> Word
     }
 }
 
-fn state_rule(numbers: Numbers, who: usize, slot: usize, phase: usize, memory: &Memory) -> Effect
-    requires { InPhase numbers who States slot phase (held memory.now) }
-    ensures { let k = heard_by numbers who slot phase (held memory.now) in
+fn state_rule(numbers: Numbers, who: usize, slot: usize, phase: usize, memory: MemoryRef) -> Effect
+    requires { InPhase numbers who States slot phase (read memory) }
+    ensures { let k = heard_by numbers who slot phase (read memory.entry) in
         result ≡ settle (state_rule numbers k) }
 {
     let count = count_heard(numbers, who, Sort::States, slot, phase, memory);
@@ -87,9 +93,15 @@ fn state_rule(numbers: Numbers, who: usize, slot: usize, phase: usize, memory: &
 
 // Outcome 1. The coin has no part in it.
 #[tactic(auto, using(crate::proofs::RuleLaws::finds), unfolding(model::specs::Rules::phase_in, model::specs::Rules::conclude))]
-fn close_or_seek(numbers: Numbers, who: usize, slot: usize, phase: usize, memory: &Memory) -> Effect
-    requires { InSlot numbers who slot (held memory.now) }
-    ensures { let k = heard_by numbers who slot phase (held memory.now) in
+fn close_or_seek(
+    numbers: Numbers,
+    who: usize,
+    slot: usize,
+    phase: usize,
+    memory: MemoryRef,
+) -> Effect
+    requires { InSlot numbers who slot (read memory) }
+    ensures { let k = heard_by numbers who slot phase (read memory.entry) in
         result ≡ conclude numbers false k (Some true) }
 {
     match majority_tag(numbers, who, slot, memory) {
@@ -125,12 +137,12 @@ fn vote_rule(
     who: usize,
     slot: usize,
     phase: usize,
-    memory: &Memory,
+    memory: MemoryRef,
     strip: &[u8],
 ) -> Effect
-    requires { (InPhase numbers who Votes slot phase (held memory.now))
+    requires { (InPhase numbers who Votes slot phase (read memory))
         × (1 ≤ phase) × (strip_cell numbers.phases slot phase < length strip.now) }
-    ensures { let k = heard_by numbers who slot phase (held memory.now) in
+    ensures { let k = heard_by numbers who slot phase (read memory.entry) in
         result ≡ settle (vote_rule numbers (coin numbers.phases strip.now slot phase) k) }
 {
     let count = count_heard(numbers, who, Sort::Votes, slot, phase, memory);
@@ -147,9 +159,9 @@ fn vote_rule(
     }
 }
 
-fn find_rule(numbers: Numbers, who: usize, slot: usize, phase: usize, memory: &Memory) -> Effect
-    requires { InSlot numbers who slot (held memory.now) }
-    ensures { let k = heard_by numbers who slot phase (held memory.now) in
+fn find_rule(numbers: Numbers, who: usize, slot: usize, phase: usize, memory: MemoryRef) -> Effect
+    requires { InSlot numbers who slot (read memory) }
+    ensures { let k = heard_by numbers who slot phase (read memory.entry) in
         result ≡ settle (find_rule numbers k) }
 {
     match majority_tag(numbers, who, slot, memory) {
@@ -165,12 +177,12 @@ fn advance_rule(
     round: Round,
     slot: usize,
     phase: usize,
-    memory: &Memory,
+    memory: MemoryRef,
     strip: &[u8],
 ) -> Effect
-    requires { (who < numbers.n) × (misplaced numbers round slot phase ≡ false) × (Reach numbers (held memory.now))
+    requires { (who < numbers.n) × (misplaced numbers round slot phase ≡ false) × (Reach numbers (read memory))
         × (numbers.slots * numbers.phases ≤ length strip.now) }
-    ensures { let k = heard_by numbers who slot phase (held memory.now) in
+    ensures { let k = heard_by numbers who slot phase (read memory.entry) in
         result ≡ settle (advance_rule numbers (coin numbers.phases strip.now slot phase) k round) }
 {
     match round {

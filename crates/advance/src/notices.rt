@@ -7,7 +7,7 @@ ghost use Rattle.model.specs.Coins.{coin};
 ghost use Rattle.model.specs.TurnedAway.{settle};
 ghost use Rattle.model.specs.Rules.{notice, advance_rule, heed as heeding};
 ghost use Rattle.tables.specs.Checks.{misplaced};
-ghost use Rattle.tables.specs.Lent.{held};
+ghost use Rattle.tables.specs.Lent.{read};
 ghost use Rattle.messages.specs.Reach.{Reach};
 ghost use Rattle.tallies.specs.Heard.{InSlot, heard_by};
 ghost use Rattle.advance.specs.Noticed.{noticed as noticed_by};
@@ -16,13 +16,13 @@ use crate::advance_rule;
 use layout::has_row;
 use messages::words::heard_word;
 use model::{Effect, Numbers, Round, Sort, Word};
-use tables::{Address, Memory};
+use tables::{Address, MemoryRef};
 use values::words::{is_sent, tag_of};
 
 // "of several notices the lowest sender's counts"
-fn first_notice(numbers: Numbers, who: usize, slot: usize, memory: &Memory) -> Word
-    requires { InSlot numbers who slot (held memory.now) }
-    ensures { result ≡ notice numbers (heard_by numbers who slot 0 (held memory.now)) }
+fn first_notice(numbers: Numbers, who: usize, slot: usize, memory: MemoryRef) -> Word
+    requires { InSlot numbers who slot (read memory) }
+    ensures { result ≡ notice numbers (heard_by numbers who slot 0 (read memory.entry)) }
 {
     for sender in 0..numbers.n {
         let at = Address {
@@ -40,9 +40,9 @@ fn first_notice(numbers: Numbers, who: usize, slot: usize, memory: &Memory) -> W
 }
 
 // An idle replica that has closed all slots has no current one, and no row for its notices.
-fn noticed(numbers: Numbers, who: usize, slot: usize, memory: &Memory) -> Word
-    requires { (who < numbers.n) × (Reach numbers (held memory.now)) }
-    ensures { result ≡ noticed_by numbers who slot (held memory.now) }
+fn noticed(numbers: Numbers, who: usize, slot: usize, memory: MemoryRef) -> Word
+    requires { (who < numbers.n) × (Reach numbers (read memory)) }
+    ensures { result ≡ noticed_by numbers who slot (read memory.entry) }
 {
     if has_row(numbers, slot) {
         first_notice(numbers, who, slot, memory)
@@ -57,13 +57,13 @@ pub fn heed(
     round: Round,
     slot: usize,
     phase: usize,
-    memory: &Memory,
+    memory: MemoryRef,
     strip: &[u8],
 ) -> Effect
-    requires { (who < numbers.n) × (misplaced numbers round slot phase ≡ false) × (Reach numbers (held memory.now))
+    requires { (who < numbers.n) × (misplaced numbers round slot phase ≡ false) × (Reach numbers (read memory))
         × (numbers.slots * numbers.phases ≤ length strip.now) }
-    ensures { let k = heard_by numbers who slot phase (held memory.now) in
-        let word = noticed_by numbers who slot (held memory.now) in
+    ensures { let k = heard_by numbers who slot phase (read memory.entry) in
+        let word = noticed_by numbers who slot (read memory.entry) in
         result ≡ settle (heeding word (advance_rule numbers (coin numbers.phases strip.now slot phase) k round)) }
 {
     let word = noticed(numbers, who, slot, memory);

@@ -31,6 +31,9 @@ use Rattle.model.proofs.Sequences.{each_same, conducted_by, conducts_by}
 use Rattle.tables.specs.Layout.{Tables, has_bit}
 use Rattle.tables.specs.View.{view}
 use Rattle.tables.specs.declared.Lengths.{Lengths}
+use Rattle.tables.specs.declared.Memory.{Memory}
+use Rattle.tables.specs.declared.MemoryRef.{MemoryRef}
+use Rattle.tables.specs.Lent.{held, read, Reads, reads_held}
 use Rattle.tables.specs.Checks.{lengths, long, tables_refusals}
 use Rattle.tables.specs.Sound.{Sound, sound, own_view}
 use Rattle.tables.specs.Calls.{on_tables, tables_barred, conducted}
@@ -70,6 +73,11 @@ module _ (N : Numbers) (strip : List ℕ) (t : Tables) where
   passed_sound passed =
       let (lent, short) = unmet_both (tables_refusals N t) (ShortTable when strip_short N strip ∷ []) (passed_unmet (tables_barred N strip t) (sym passed)) in
       (sound N t lent, short.0)
+
+-- a rack that is read is as level as the memory that it was lent from
+pub level_read : (N : Numbers) (s : ℕ) {m : Memory} {r : MemoryRef} {b : Bool} → b ≡ level N (view N (read r)) s → Reads m r
+    → b ≡ level N (view N (held m)) s
+level_read N s q e = q ∙ ap (λ t. level N (view N t) s) (reads_held e)
 
 -- ---- the steps by masks are those by the rack
 

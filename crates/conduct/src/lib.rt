@@ -44,7 +44,9 @@ fn bar(numbers: Numbers, memory: &Memory, strip: &[u8]) -> Result<(), Refusal>
     if run_spoiled(numbers, memory.words) {
         return Err(Refusal::SpoiledRecord);
     }
-    if !tables_long(numbers, measure(memory)) || strip.len() < numbers.slots * numbers.phases {
+    if !tables_long(numbers, measure(memory.to_read()))
+        || strip.len() < numbers.slots * numbers.phases
+    {
         return Err(Refusal::ShortTable);
     }
     Ok(())
@@ -60,7 +62,7 @@ fn find_level(numbers: Numbers, memory: &Memory) -> Result<Found, Refusal>
     if running.count < numbers.n - numbers.f {
         return Err(Refusal::TooFewRunning);
     }
-    if !is_level(numbers, running.slot, memory) {
+    if !is_level(numbers, running.slot, memory.to_read()) {
         return Err(Refusal::NotLevel);
     }
     if numbers.slots <= running.slot {

@@ -1,7 +1,9 @@
 -- What a hear comes to, exit by exit.
-use Prim.Native.Nat.{ℕ, ◌<◌}
+use Prim.Native.Nat.{ℕ, ◌<◌, ◌≤◌}
+use native.Mathlib.Omega.{arith}
 use mathlib.Core.Bool.{Bool, true, false, not, ◌||◌}
 use mathlib.Core.List.{List}
+use mathlib.Core.Logic.{◌≢◌}
 use mathlib.Core.Option.{Option, none, some}
 use mathlib.Core.Path.{◌≡◌, refl, sym, ◌∙◌, ap, subst}
 use lib.Dec.{leb}
@@ -11,6 +13,7 @@ use Rattle.std.specs.Prelude.{Ok, Err}
 use Rattle.model.specs.declared.Numbers.{Numbers}
 use Rattle.model.specs.declared.Message.{Message}
 use Rattle.model.specs.declared.Sort.{Sort}
+use Rattle.model.specs.declared.Sort.TheVariants.{Proposals, States, Votes, Notices}
 use Rattle.model.specs.declared.Word.{Word}
 use Rattle.model.specs.declared.Word.TheVariants.{Unsent}
 use Rattle.model.specs.declared.Effect.{Effect}
@@ -78,6 +81,22 @@ module _ (N : Numbers) (ws os bs : List ℕ) (c : ℕ) (m : Message) (so : Sort)
       taken e = ap (λ (w : Word). Receive so m.slot.0 m.phase.0 m.sender.0 w) on_board ∙ received e
 
 -- ---- by the number of the sort
+
+pub sort_1 : {x : ℕ} → x ≡ 1 → some Proposals ≡ sort_of x
+unfolding if
+sort_1 e = rw e
+
+pub sort_2 : {x : ℕ} → x ≡ 2 → some States ≡ sort_of x
+unfolding if
+sort_2 e = rw e
+
+pub sort_3 : {x : ℕ} → x ≡ 3 → some Votes ≡ sort_of x
+unfolding if
+sort_3 e = rw e
+
+pub sort_4 : {x : ℕ} → (1 ≤ x) × (x ≤ 4) → x ≢ 1 → x ≢ 2 → x ≢ 3 → some Notices ≡ sort_of x
+unfolding if
+sort_4 {x} (lo, hi) a b c = let e : x ≡ 4 = omega arith in rw e
 
 module _ (N : Numbers) (sent : Messages) (k : Replica) (m : Message) where
   abbrev Comes : Effect → Option Sort → Type 0

@@ -1,17 +1,18 @@
 // Hear: refusals 16, 17, 18.
-ghost use Rattle.std.specs.Prelude.{◌≡◌, not, ◌||◌, ◌<◌, leb, IfOk};
+ghost use Rattle.std.specs.Prelude.{◌≡◌, not, ◌||◌, ◌<◌, ◌≤◌, leb, IfOk};
+ghost use Rattle.std.proofs.Math.Option.{some};
 ghost use Rattle.model.specs.declared.Effect.TheVariants.{Receive};
 ghost use Rattle.model.specs.Rack.{sort_of};
 ghost use Rattle.model.specs.TurnedAway.{settle, effect_in};
 ghost use Rattle.model.specs.Rules.{phase_in, hear_rule};
 ghost use Rattle.tables.specs.Addresses.{Addressed};
 ghost use Rattle.tables.specs.View.{guarded, sent_words, inbox_in};
-ghost use Rattle.tables.specs.Lent.{held};
+ghost use Rattle.tables.specs.Lent.{read};
 ghost use Rattle.messages.specs.Reach.{Reach, reading};
 
 use crate::words::{counts_for, sent_word};
 use model::{Message, Numbers, Refusal, Sort};
-use tables::{Address, Memory};
+use tables::{Address, MemoryRef};
 use values::words::is_sent;
 
 #[tactic(auto, using(model::proofs::Branches::picks), unfolding(model::specs::Rules::phase_in))]
@@ -31,16 +32,29 @@ fn out_of_range(numbers: Numbers, sort: Sort, slot: usize, phase: usize) -> bool
     numbers.slots <= slot || !phase_in(numbers, sort, phase)
 }
 
+// By the number of the sort: 1 a proposal, 2 a state, 3 a vote, 4 a notice.
+pub fn sort_named(x: usize) -> Sort
+    requires { (1 ≤ x) × (x ≤ 4) }
+    ensures { some result ≡ sort_of x }
+{
+    match x {
+        1 => Sort::Proposals,
+        2 => Sort::States,
+        3 => Sort::Votes,
+        _ => Sort::Notices,
+    }
+}
+
 // Where the message stands that is heard.
 pub fn hear_rule(
     numbers: Numbers,
     who: usize,
     message: Message,
-    memory: &Memory,
+    memory: MemoryRef,
 ) -> Result<Address, Refusal>
-    requires { (who < numbers.n) × (message.sender.0 < numbers.n) × (Reach numbers (held memory.now)) }
+    requires { (who < numbers.n) × (message.sender.0 < numbers.n) × (Reach numbers (read memory)) }
     ensures there { IfOk result (λ at. Addressed numbers at) }
-    ensures settled { let t = held memory.now in
+    ensures settled { let t = read memory.entry in
         let sent = guarded numbers (sent_words numbers t.words t.orders t.ballots) in
         effect_in (λ at. Receive at.sort at.slot at.phase at.sender (sent at.sort at.slot at.phase at.sender)) result
         ≡ settle (hear_rule numbers sent

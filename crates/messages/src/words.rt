@@ -7,14 +7,14 @@ ghost use Rattle.tables.specs.View.{word_in, notice_in, counts_for, closed_in, s
 ghost use Rattle.tables.specs.Write.{word_number};
 ghost use Rattle.tables.specs.Bounds.{Bounds};
 ghost use Rattle.tables.specs.Addresses.{Addressed};
-ghost use Rattle.tables.specs.Lent.{held};
+ghost use Rattle.tables.specs.Lent.{read};
 ghost use Rattle.messages.specs.Reach.{Reach};
 
 use cells::masks::has_bit;
 use cells::records::load;
 use layout::{ballot_place, heard_place, log_place, proposal_place};
 use model::{Numbers, Sort, Word};
-use tables::{Address, Memory};
+use tables::{Address, MemoryRef};
 
 // What the number in a cell says, by the sort of the message.
 #[inline(always)]
@@ -44,7 +44,7 @@ fn notice_word(numbers: Numbers, slot: usize, sender: usize, words: &[u16], orde
     }
 }
 
-pub(crate) fn word_number(word: Word) -> u64
+pub fn word_number(word: Word) -> u64
     ensures { result ≡ word_number word }
 {
     match word {
@@ -58,9 +58,9 @@ pub(crate) fn word_number(word: Word) -> u64
 
 #[tactic(auto, using(model::proofs::Branches::picks), unfolding(tables::specs::View::letter, tables::specs::View::only))]
 #[inline(always)]
-pub fn sent_word(numbers: Numbers, at: Address, memory: &Memory) -> Word
-    requires { (Addressed numbers at) × (Reach numbers (held memory.now)) }
-    ensures { let t = held memory.now in
+pub fn sent_word(numbers: Numbers, at: Address, memory: MemoryRef) -> Word
+    requires { (Addressed numbers at) × (Reach numbers (read memory)) }
+    ensures { let t = read memory.entry in
         result ≡ sent_words numbers t.words t.orders t.ballots at.sort at.slot at.phase at.sender }
 {
     match at.sort {
@@ -84,9 +84,9 @@ pub fn counts_for(numbers: Numbers, who: usize, at: Address, words: &[u16]) -> b
 
 // What `who` has heard of it.
 #[inline(always)]
-pub fn heard_word(numbers: Numbers, who: usize, at: Address, memory: &Memory) -> Word
-    requires { (who < mask_bits) × (Addressed numbers at) × (Reach numbers (held memory.now)) }
-    ensures { let t = held memory.now in
+pub fn heard_word(numbers: Numbers, who: usize, at: Address, memory: MemoryRef) -> Word
+    requires { (who < mask_bits) × (Addressed numbers at) × (Reach numbers (read memory)) }
+    ensures { let t = read memory.entry in
         result ≡ inbox_in numbers t.words t.orders t.ballots who at.sort at.slot at.phase at.sender }
 {
     if counts_for(numbers, who, at, memory.words) {

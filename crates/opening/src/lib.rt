@@ -47,7 +47,9 @@ pub fn open(plan: Plan, memory: &mut Memory, strip: &mut [u8]) -> Result<Numbers
         return Err(Refusal::BadPlan);
     }
     let numbers = plan_numbers(plan);
-    if !tables_long(numbers, measure(memory)) || strip.len() < numbers.slots * numbers.phases {
+    if !tables_long(numbers, measure(memory.to_read()))
+        || strip.len() < numbers.slots * numbers.phases
+    {
         return Err(Refusal::ShortTable);
     }
     clear_tables(numbers, memory);

@@ -21,7 +21,7 @@ fn turned(x: u64) -> u64
 }
 
 // The order in which pending tags are proposed. The compiler makes one comparison of it, a signed one.
-fn is_ahead(x: u64, y: u64) -> bool
+pub fn is_ahead(x: u64, y: u64) -> bool
     ensures { result ≡ ahead x y }
 {
     turned(x) < turned(y)

@@ -17,7 +17,10 @@ use Rattle.model.specs.TurnedAway.{unless}
 use Rattle.model.proofs.Branches.{told}
 use Rattle.model.proofs.Cases.{or_false}
 use Rattle.tables.specs.Layout.{record_at}
-use Rattle.tables.specs.Checks.{long}
+use Rattle.tables.specs.declared.Memory.{Memory}
+use Rattle.tables.specs.declared.MemoryRef.{MemoryRef}
+use Rattle.tables.specs.Lent.{held, read, Reads, reads_held}
+use Rattle.tables.specs.Checks.{lengths, long}
 use Rattle.tables.specs.Bounds.{Bounds, bounds}
 use Rattle.refusals.specs.Vet.{run_spoiled, vetted}
 
@@ -27,9 +30,9 @@ in_bounds N ws h = bounds N (not-false _ (or_false (not (limited N)) _ h).0)
 
 -- ---- 2, 4, 5
 
--- what was told of the measured lengths is so of these
-pub measured : (N : Numbers) {l m : Lengths} {r v : Bool} → l ≡ m → r ≡ long N l → r ≡ v → long N m ≡ v
-measured N e q h = ap (long N) (sym e) ∙ told q h
+-- the lengths of a memory, measured where it was lent to be read
+pub measured : {m : Memory} {r : MemoryRef} {l : Lengths} → l ≡ lengths (read r) → Reads m r → l ≡ lengths (held m)
+measured q e = q ∙ ap lengths (reads_held e)
 
 module _ (N : Numbers) (c d : ℕ) (l : Lengths) (st : ℕ) (ws : List ℕ) where
   abbrev Gives : Result ⊤ Refusal → Type 0

@@ -1,16 +1,16 @@
 // What every step but a crash asks first: refusals 3, 2, 4, 5, in this order. Inner code: no calls of the library.
 #![tactic(auto)]
 
-ghost use Rattle.std.specs.Prelude.{◌≡◌, false};
+ghost use Rattle.std.specs.Prelude.{◌≡◌, false, length};
 ghost use Rattle.tables.specs.Bounds.{Bounds};
 ghost use Rattle.tables.specs.Checks.{lengths, long};
-ghost use Rattle.tables.specs.Lent.{held};
+ghost use Rattle.tables.specs.Lent.{held, read};
 ghost use Rattle.refusals.specs.Vet.{run_spoiled, vetted, first_vetted};
 
 use cells::records::{any_spoiled, known_in, load};
 use layout::{ballots_need, orders_need, words_need};
 use model::{Numbers, Refusal};
-use tables::{Lengths, Memory};
+use tables::{Lengths, Memory, MemoryRef};
 use values::limits::numbers_limited;
 
 // No memory is "shorter than the run needs".
@@ -24,8 +24,8 @@ pub fn tables_long(numbers: Numbers, lengths: Lengths) -> bool
         && ballots_need(numbers) <= lengths.ballots
 }
 
-pub fn measure(memory: &Memory) -> Lengths
-    ensures { result ≡ lengths (held memory.now) }
+pub fn measure(memory: MemoryRef) -> Lengths
+    ensures { result ≡ lengths (read memory.entry) }
 {
     Lengths {
         words: memory.words.len(),
@@ -47,24 +47,24 @@ pub fn run_spoiled(numbers: Numbers, words: &[u16]) -> bool
 
 // 2, 4, 5, behind 3.
 #[inline(always)]
-fn vet(
+pub fn vet(
     numbers: Numbers,
     who: usize,
     other: usize,
-    memory: &Memory,
+    lengths: Lengths,
     strip: usize,
+    words: &[u16],
 ) -> Result<(), Refusal>
-    requires { run_spoiled numbers (held memory.now).words ≡ false }
-    ensures { let t = held memory.now in
-        result ≡ vetted numbers who other (lengths t) strip t.words }
+    requires { (run_spoiled numbers words.now ≡ false) × (lengths.words ≡ length words.now) }
+    ensures { result ≡ vetted numbers who other lengths strip words.now }
 {
-    if !tables_long(numbers, measure(memory)) || strip < numbers.slots * numbers.phases {
+    if !tables_long(numbers, lengths) || strip < numbers.slots * numbers.phases {
         return Err(Refusal::ShortTable);
     }
     if numbers.n <= who || numbers.n <= other {
         return Err(Refusal::NoSuchReplica);
     }
-    if load(memory.words, who).crashed != 0 {
+    if load(words, who).crashed != 0 {
         return Err(Refusal::Crashed);
     }
     Ok(())
@@ -85,5 +85,6 @@ pub fn admit(
     if run_spoiled(numbers, memory.words) {
         return Err(Refusal::SpoiledRecord);
     }
-    vet(numbers, who, other, memory, strip)
+    let lengths = measure(memory.to_read());
+    vet(numbers, who, other, lengths, strip, memory.words)
 }

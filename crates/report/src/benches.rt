@@ -3,7 +3,6 @@ ghost use Rattle.std.specs.Prelude.{◌≡◌, not, ◌<◌, ◌≤◌, eqb, len
 ghost use Rattle.tables.specs.Layout.{words_need, orders_need};
 ghost use Rattle.tables.specs.Bounds.{Bounds};
 ghost use Rattle.tables.specs.View.{log_in};
-ghost use Rattle.tables.specs.Lent.{held};
 ghost use Rattle.files.specs.Page.{shown, print, SameReport};
 ghost use Rattle.files.specs.Lines.{entry_text, entries_text, light, bench_in, benches_in};
 
@@ -12,7 +11,6 @@ use cells::records::load;
 use files::Report;
 use layout::{has_row, log_place};
 use model::Numbers;
-use tables::Memory;
 
 fn entry_at(numbers: Numbers, c: usize, s: usize, orders: &[u64]) -> u64
     requires { (Bounds numbers) × (c < numbers.n) × (orders_need numbers ≤ length orders.now) }
@@ -71,12 +69,12 @@ fn put_bench(numbers: Numbers, c: usize, words: &[u16], orders: &[u64], report: 
     put_text(b"\n", report);
 }
 
-pub fn put_benches(numbers: Numbers, memory: &Memory, report: &mut Report)
-    requires { (Bounds numbers) × (words_need numbers ≤ length memory.now.words.now) × (orders_need numbers ≤ length memory.now.orders.now) }
+pub fn put_benches(numbers: Numbers, words: &[u16], orders: &[u64], report: &mut Report)
+    requires { (Bounds numbers) × (words_need numbers ≤ length words.now) × (orders_need numbers ≤ length orders.now) }
     ensures same { SameReport report.old report.new }
-    ensures text { let t = held memory.now in shown report.new ≡ print (shown report.old) (benches_in numbers t.words t.orders numbers.n) }
+    ensures text { shown report.new ≡ print (shown report.old) (benches_in numbers words.now orders.now numbers.n) }
 {
     for c in 0..numbers.n {
-        put_bench(numbers, c, memory.words, memory.orders, report);
+        put_bench(numbers, c, words, orders, report);
     }
 }

@@ -47,7 +47,7 @@ fn is_unheard(numbers: Numbers, who: usize, at: Address, memory: &Memory) -> boo
         result ≡ (is_sent (sent_words numbers t.words t.orders t.ballots at.sort at.slot at.phase at.sender)
         && not (counts_for who at.sender (get_or t.words (heard_cell numbers at.sort at.slot at.phase at.sender) 0))) }
 {
-    is_sent(sent_word(numbers, at, memory)) && !counts_for(numbers, who, at, memory.words)
+    is_sent(sent_word(numbers, at, memory.to_read())) && !counts_for(numbers, who, at, memory.words)
 }
 
 // One replica hears each other running one, and not itself. By the leaves of the hear, so that its own caller stays the only one.

@@ -41,7 +41,7 @@ pub fn run_on(
     ensures outcome { ended (answer_in Ran result) (held memory.new) ≡ ran_on numbers strip.now who (held memory.old) }
 {
     admit(numbers, who.0, who.0, memory, strip.len())?;
-    let first = advance_once(numbers, who, Ok(()), memory, strip);
+    let first = advance_once(numbers, who, true, memory, strip);
     if !goes_on(first) {
         return stopped(0, first);
     }

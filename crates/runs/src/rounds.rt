@@ -49,7 +49,7 @@ pub fn run_state(
     ensures outcome { ended (answer_in Ran result) (held memory.new)
         ≡ play (on_tables numbers strip.now) (running who (2 * left + 1) count) (held memory.old) }
 {
-    let effect = advance_once(numbers, who, Ok(()), memory, strip);
+    let effect = advance_once(numbers, who, true, memory, strip);
     if goes_on(effect) {
         return run_vote(numbers, who, left, count + 1, memory, strip);
     }
@@ -75,7 +75,7 @@ pub fn run_vote(
     if left == 0 {
         return Ok(count);
     }
-    let effect = advance_once(numbers, who, Ok(()), memory, strip);
+    let effect = advance_once(numbers, who, true, memory, strip);
     if goes_on(effect) {
         return run_state(numbers, who, left - 1, count + 1, memory, strip);
     }

@@ -98,7 +98,8 @@ pub fn play(
 {
     let last = play_records(most, file, report, memory, strip);
     if let Some(numbers) = last.player.opened {
-        put_benches(numbers, memory, report);
+        let read = memory.to_read();
+        put_benches(numbers, read.words, read.orders, report);
     }
     last
 }

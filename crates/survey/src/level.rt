@@ -8,7 +8,7 @@ ghost use Rattle.tables.specs.Layout.{record_at, words_need};
 ghost use Rattle.tables.specs.Bounds.{Bounds};
 ghost use Rattle.tables.specs.View.{view};
 ghost use Rattle.tables.specs.Addresses.{Addressed};
-ghost use Rattle.tables.specs.Lent.{held};
+ghost use Rattle.tables.specs.Lent.{read};
 ghost use Rattle.messages.specs.Reach.{Reach};
 ghost use Rattle.survey.specs.Standing.{uneven_record, balloted};
 
@@ -16,7 +16,7 @@ use cells::records::load;
 use layout::has_row;
 use messages::words::sent_word;
 use model::{Numbers, Round, Sort};
-use tables::{Address, Memory, Record};
+use tables::{Address, MemoryRef, Record};
 use values::words::is_sent;
 
 // Whether it is running, and in a round or at another slot.
@@ -33,17 +33,23 @@ fn any_uneven(numbers: Numbers, slot: usize, words: &[u16]) -> bool
     (0..numbers.n).any(|c| is_uneven(slot, load(words, c)))
 }
 
-fn has_sent(numbers: Numbers, at: Address, memory: &Memory) -> bool
-    requires { (Addressed numbers at) × (Reach numbers (held memory.now)) }
-    ensures { result ≡ is_sent ((view numbers (held memory.now)).sent at.sort at.slot at.phase at.sender) }
+fn has_sent(numbers: Numbers, at: Address, memory: MemoryRef) -> bool
+    requires { (Addressed numbers at) × (Reach numbers (read memory)) }
+    ensures { result ≡ is_sent ((view numbers (read memory.entry)).sent at.sort at.slot at.phase at.sender) }
 {
     is_sent(sent_word(numbers, at, memory))
 }
 
 // A state or a vote of one phase.
-fn balloted_in(numbers: Numbers, slot: usize, phase: usize, sender: usize, memory: &Memory) -> bool
-    requires { (slot < numbers.slots) × (1 ≤ phase) × (phase ≤ numbers.phases) × (sender < numbers.n) × (Reach numbers (held memory.now)) }
-    ensures { let k = view numbers (held memory.now) in
+fn balloted_in(
+    numbers: Numbers,
+    slot: usize,
+    phase: usize,
+    sender: usize,
+    memory: MemoryRef,
+) -> bool
+    requires { (slot < numbers.slots) × (1 ≤ phase) × (phase ≤ numbers.phases) × (sender < numbers.n) × (Reach numbers (read memory)) }
+    ensures { let k = view numbers (read memory.entry) in
         result ≡ (is_sent (k.sent States slot phase sender) || is_sent (k.sent Votes slot phase sender)) }
 {
     let state = Address {
@@ -60,18 +66,18 @@ fn balloted_in(numbers: Numbers, slot: usize, phase: usize, sender: usize, memor
 }
 
 // A state or a vote of any phase.
-fn has_balloted(numbers: Numbers, slot: usize, sender: usize, memory: &Memory) -> bool
-    requires { (slot < numbers.slots) × (sender < numbers.n) × (Reach numbers (held memory.now)) }
-    ensures { let k = view numbers (held memory.now) in
+fn has_balloted(numbers: Numbers, slot: usize, sender: usize, memory: MemoryRef) -> bool
+    requires { (slot < numbers.slots) × (sender < numbers.n) × (Reach numbers (read memory)) }
+    ensures { let k = view numbers (read memory.entry) in
         result ≡ any numbers.phases (balloted k.sent slot sender) }
 {
     (0..numbers.phases).any(|p| balloted_in(numbers, slot, p + 1, sender, memory))
 }
 
 // Any message of the slot.
-fn has_spoken(numbers: Numbers, slot: usize, sender: usize, memory: &Memory) -> bool
-    requires { (slot < numbers.slots) × (sender < numbers.n) × (Reach numbers (held memory.now)) }
-    ensures { let k = view numbers (held memory.now) in
+fn has_spoken(numbers: Numbers, slot: usize, sender: usize, memory: MemoryRef) -> bool
+    requires { (slot < numbers.slots) × (sender < numbers.n) × (Reach numbers (read memory)) }
+    ensures { let k = view numbers (read memory.entry) in
         result ≡ spoke numbers k slot sender }
 {
     let proposal = Address {
@@ -90,18 +96,18 @@ fn has_spoken(numbers: Numbers, slot: usize, sender: usize, memory: &Memory) -> 
 }
 
 // "dark or lit": every sender is asked, whatever its record says.
-fn anyone_spoke(numbers: Numbers, slot: usize, memory: &Memory) -> bool
-    requires { (slot < numbers.slots) × (Reach numbers (held memory.now)) }
-    ensures { let k = view numbers (held memory.now) in
+fn anyone_spoke(numbers: Numbers, slot: usize, memory: MemoryRef) -> bool
+    requires { (slot < numbers.slots) × (Reach numbers (read memory)) }
+    ensures { let k = view numbers (read memory.entry) in
         result ≡ any numbers.n (spoke numbers k slot) }
 {
     (0..numbers.n).any(|sender| has_spoken(numbers, slot, sender, memory))
 }
 
 // The records first: they are few, and tell of most racks that are not level. Nothing is sent of a slot that has no row.
-pub fn is_level(numbers: Numbers, slot: usize, memory: &Memory) -> bool
-    requires { Reach numbers (held memory.now) }
-    ensures { result ≡ level numbers (view numbers (held memory.now)) slot }
+pub fn is_level(numbers: Numbers, slot: usize, memory: MemoryRef) -> bool
+    requires { Reach numbers (read memory) }
+    ensures { result ≡ level numbers (view numbers (read memory.entry)) slot }
 {
     !any_uneven(numbers, slot, memory.words)
         && !(has_row(numbers, slot) && anyone_spoke(numbers, slot, memory))

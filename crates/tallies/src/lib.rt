@@ -6,13 +6,13 @@ ghost use Rattle.model.specs.declared.Sort.TheVariants.{Proposals};
 ghost use Rattle.model.specs.declared.Word.TheVariants.{Tag};
 ghost use Rattle.model.specs.Limits.{most_replicas};
 ghost use Rattle.model.specs.Rules.{seen, tally, majority_tag};
-ghost use Rattle.tables.specs.Lent.{held};
+ghost use Rattle.tables.specs.Lent.{read};
 ghost use Rattle.tallies.specs.Heard.{InPhase, heard_by};
 ghost use Rattle.tallies.specs.Counts.{Counted, backed, Leading};
 
 use messages::words::heard_word;
 use model::{Numbers, Sort, Word};
-use tables::{Address, Memory};
+use tables::{Address, MemoryRef};
 use values::words::{is, is_sent, tag_of};
 
 // Of the messages heard: all, those that say 0, those that say 1.
@@ -39,10 +39,10 @@ fn heard(
     slot: usize,
     phase: usize,
     sender: usize,
-    memory: &Memory,
+    memory: MemoryRef,
 ) -> Word
-    requires { (InPhase numbers who sort slot phase (held memory.now)) × (sender < numbers.n) }
-    ensures { result ≡ seen (heard_by numbers who slot phase (held memory.now)) sort phase sender }
+    requires { (InPhase numbers who sort slot phase (read memory)) × (sender < numbers.n) }
+    ensures { result ≡ seen (heard_by numbers who slot phase (read memory.entry)) sort phase sender }
 {
     let at = Address {
         sort,
@@ -61,10 +61,10 @@ pub fn count_heard(
     sort: Sort,
     slot: usize,
     phase: usize,
-    memory: &Memory,
+    memory: MemoryRef,
 ) -> Count
-    requires { InPhase numbers who sort slot phase (held memory.now) }
-    ensures { Counted numbers (heard_by numbers who slot phase (held memory.now)) sort phase result }
+    requires { InPhase numbers who sort slot phase (read memory) }
+    ensures { Counted numbers (heard_by numbers who slot phase (read memory.entry)) sort phase result }
 {
     let mut count = Count {
         all: 0,
@@ -81,9 +81,9 @@ pub fn count_heard(
 }
 
 // How many propose the tag.
-fn tag_tally(numbers: Numbers, who: usize, slot: usize, tag: u64, memory: &Memory) -> usize
-    requires { InPhase numbers who Proposals slot 0 (held memory.now) }
-    ensures { result ≡ tally numbers (heard_by numbers who slot 0 (held memory.now)) Proposals 0 (Tag tag) }
+fn tag_tally(numbers: Numbers, who: usize, slot: usize, tag: u64, memory: MemoryRef) -> usize
+    requires { InPhase numbers who Proposals slot 0 (read memory) }
+    ensures { result ≡ tally numbers (heard_by numbers who slot 0 (read memory.entry)) Proposals 0 (Tag tag) }
 {
     (0..numbers.n)
         .filter(|sender| {
@@ -117,9 +117,9 @@ fn back(lead: Lead, x: u64) -> Lead
 
 // The only tag that can have a majority. Each sender that backs the leading tag is set off against one that doesn't (the
 // majority vote of Boyer and Moore), so that no tag is counted for each sender.
-fn leading_tag(numbers: Numbers, who: usize, slot: usize, memory: &Memory) -> u64
-    requires { InPhase numbers who Proposals slot 0 (held memory.now) }
-    ensures { Leading numbers (heard_by numbers who slot 0 (held memory.now)) result }
+fn leading_tag(numbers: Numbers, who: usize, slot: usize, memory: MemoryRef) -> u64
+    requires { InPhase numbers who Proposals slot 0 (read memory) }
+    ensures { Leading numbers (heard_by numbers who slot 0 (read memory.entry)) result }
 {
     let mut lead = Lead { tag: 0, by: 0 };
     for sender in 0..numbers.n {
@@ -130,9 +130,9 @@ fn leading_tag(numbers: Numbers, who: usize, slot: usize, memory: &Memory) -> u6
 }
 
 // The tag that has a majority among the proposals heard, 0 if none has: "Tag 0 is no order".
-pub fn majority_tag(numbers: Numbers, who: usize, slot: usize, memory: &Memory) -> u64
-    requires { InPhase numbers who Proposals slot 0 (held memory.now) }
-    ensures { result ≡ majority_tag numbers (heard_by numbers who slot 0 (held memory.now)) }
+pub fn majority_tag(numbers: Numbers, who: usize, slot: usize, memory: MemoryRef) -> u64
+    requires { InPhase numbers who Proposals slot 0 (read memory) }
+    ensures { result ≡ majority_tag numbers (heard_by numbers who slot 0 (read memory.entry)) }
 {
     let tag = leading_tag(numbers, who, slot, memory);
     if numbers.n / 2 + 1 <= tag_tally(numbers, who, slot, tag, memory) {

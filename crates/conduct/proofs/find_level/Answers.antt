@@ -1,4 +1,4 @@
-use Rattle.conduct.proofs.ConductLaws.{too_few, not_level, log_full, none_pending, none_met}
+use Rattle.conduct.proofs.ConductLaws.{level_read, too_few, not_level, log_full, none_pending, none_met}
 use Rattle.conduct.proofs.find_level.Goals as goal
 
 pub returns-then-running-numbers-clause-settled : goal.returns-then-running-numbers-clause-settled
@@ -8,23 +8,27 @@ returns-then-running-numbers-clause-settled c = let t = c.args.memory.now in
 pub returns-then-not-is_level-clause-settled : goal.returns-then-not-is_level-clause-settled
 returns-then-not-is_level-clause-settled c = let t = c.args.memory.now in
     let found = c.find_running-running.ensures t.orders.now t.ballots.now in
-    not_level _ _ found.1 c.if-running-numbers.false found.2 c.is_level.ensures c.if-not-is_level.true
+    let level = level_read _ _ c.is_level.ensures c.to_read.ensures in
+    not_level _ _ found.1 c.if-running-numbers.false found.2 level c.if-not-is_level.true
 
 pub returns-then-numbers-running-clause-settled : goal.returns-then-numbers-running-clause-settled
 returns-then-numbers-running-clause-settled c = let t = c.args.memory.now in
     let found = c.find_running-running.ensures t.orders.now t.ballots.now in
-    log_full _ _ found.1 c.if-running-numbers.false found.2 c.is_level.ensures c.if-not-is_level.false c.if-numbers-running.true
+    let level = level_read _ _ c.is_level.ensures c.to_read.ensures in
+    log_full _ _ found.1 c.if-running-numbers.false found.2 level c.if-not-is_level.false c.if-numbers-running.true
 
 pub returns-then-tag-eq0-clause-settled : goal.returns-then-tag-eq0-clause-settled
 returns-then-tag-eq0-clause-settled c = let t = c.args.memory.now in
     let found = c.find_running-running.ensures t.orders.now t.ballots.now in
-    none_pending _ _ found.1 c.if-running-numbers.false found.2 c.is_level.ensures c.if-not-is_level.false c.if-numbers-running.false
+    let level = level_read _ _ c.is_level.ensures c.to_read.ensures in
+    none_pending _ _ found.1 c.if-running-numbers.false found.2 level c.if-not-is_level.false c.if-numbers-running.false
     (c.common_tag-tag.ensures t.ballots.now) c.if-tag-eq0.true
 
 pub returns-clause-settled : goal.returns-clause-settled
 returns-clause-settled c = let t = c.args.memory.now in
     let found = c.find_running-running.ensures t.orders.now t.ballots.now in
-    none_met _ _ found.1 c.if-running-numbers.false found.2 c.is_level.ensures c.if-not-is_level.false c.if-numbers-running.false
+    let level = level_read _ _ c.is_level.ensures c.to_read.ensures in
+    none_met _ _ found.1 c.if-running-numbers.false found.2 level c.if-not-is_level.false c.if-numbers-running.false
     (c.common_tag-tag.ensures t.ballots.now) c.if-tag-eq0.false
 
 pub returns-clause-seen : goal.returns-clause-seen

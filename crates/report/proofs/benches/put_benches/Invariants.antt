@@ -1,5 +1,4 @@
 use Rattle.std.specs.Prelude.{◌≡◌}
-use Rattle.tables.specs.Lent.{held}
 use Rattle.files.specs.Page.{shown, print}
 use Rattle.files.specs.Lines.{benches_in}
 use Rattle.report.proofs.benches.put_benches.Given as goal
@@ -7,5 +6,5 @@ use Rattle.report.proofs.benches.put_benches.Given as goal
 abbrev pub invariant-loop-c : goal.invariant-loop-c
 invariant-loop-c l = record {
   same : l.report.bytes.ghost_name ≡ l.initial.report.bytes.ghost_name;
-  text : shown l.report ≡ print (shown l.initial.report) (benches_in l.numbers (held l.memory).words (held l.memory).orders l.c);
+  text : shown l.report ≡ print (shown l.initial.report) (benches_in l.numbers l.words l.orders l.c);
 }
