@@ -54,7 +54,7 @@ fn phase_outside(numbers: Numbers, phase: usize) -> bool
     !(1..=numbers.phases).contains(&phase)
 }
 
-// A number above the last round's is none.
+// A number above the last round's is none. The slot is asked for before the round: most records are of a slot that the run has.
 #[tactic(auto, unfolding(tables::specs::Checks::astray, tables::specs::Checks::misplaced, model::specs::Rules::phase_in))]
 fn astray(numbers: Numbers, k: Record) -> bool
     ensures { result ≡ astray_by numbers k }
@@ -64,11 +64,11 @@ fn astray(numbers: Numbers, k: Record) -> bool
     if k.round > u16::from(Round::Find) {
         return true;
     }
-    match Round::from(k.round) {
-        Round::Idle => end < slot,
-        Round::State | Round::Vote => end <= slot || phase_outside(numbers, usize::from(k.phase)),
-        _ => end <= slot,
+    let round = Round::from(k.round);
+    if end <= slot {
+        return round != Round::Idle || end < slot;
     }
+    matches!(round, Round::State | Round::Vote) && phase_outside(numbers, usize::from(k.phase))
 }
 
 // "either count exceeds the closed slots"
