@@ -48,14 +48,17 @@ impl TryFrom<u8> for Kind {
     }
 }
 
-// The number in so many bytes, the lowest first.
+// The number in so many bytes, the lowest first. By their weight, from the last byte back: `copy_from_slice` before `from_le_bytes` would
+// need memcpy from outside.
 fn number(k: usize, file: &[u8], i: usize) -> u64
     requires { (k ≤ 8) × (i + k ≤ length file.now) }
     ensures { result ≡ number k file.now i }
 {
-    let mut bytes = [0; 8];
-    bytes[..k].copy_from_slice(&file[i..i + k]);
-    u64::from_le_bytes(bytes)
+    let mut value: u64 = 0;
+    for place in (0..k).rev() {
+        value = value * 256 + u64::from(file[i + place]);
+    }
+    value
 }
 
 impl Kind {
